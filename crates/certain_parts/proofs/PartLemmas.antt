@@ -3,7 +3,7 @@ use Rattle.std.proofs.Common.{◌≡◌, ◌∙◌, ℕ, ◌+◌, ◌*◌, ◌<�
 use Rattle.std.specs.Prelude.{◌==◌, ◌&&◌, nat_le, IsTrue, slice_index}
 use Rattle.std.specs.List.{position_or_len}
 use Rattle.std.proofs.lemmas.Bool.Decides.{nat_tests}
-use Rattle.raster_model.specs.Limits.{is_raster_size}
+use Rattle.raster_model.specs.Limits.{is_tiled_size}
 use Rattle.joined_cells.specs.Measures.{AreMeasures}
 use Rattle.joined_cells.specs.Trees.{HasTreeNumbers}
 use Rattle.certain_parts.specs.Labels.{ArePartsOf, enough, rank_of, size_of}
@@ -13,7 +13,7 @@ use Rattle.certain_parts.specs.Parts.{parts_joined}
 use Rattle.certain_parts.proofs.Agreeing.{surfaces_agree}
 use Rattle.certain_parts.proofs.LabelLemmas.{has_pixel, labels_are, labels_tell}
 
-pub size_fits : (w h : ℕ) → (1 ≤ w) × (w ≤ 4096) → (1 ≤ h) × (h ≤ 4096) → w * h ≤ 4194304 → IsTrue (is_raster_size w h)
+pub size_fits : (w h : ℕ) → (1 ≤ w) × (w ≤ 4096) → (1 ≤ h) × (h ≤ 4096) → w * h ≤ 4194304 → IsTrue (is_tiled_size w h)
 size_fits w h l m few = fits w h (w * h) l.0 l.1 m.0 m.1 few
   where
     fits : (w h n : ℕ) → 1 ≤ w → w ≤ 4096 → 1 ≤ h → h ≤ 4096 → n ≤ 4194304 → IsTrue (nat_le 1 w && nat_le w 4096 && nat_le 1 h && nat_le h 4096 && nat_le n 4194304)

@@ -23,14 +23,14 @@ pub struct Parts {
 impl Model for Parts {
     ghost use Rattle.certain_parts.specs.Labels.{first_place, part_size};
     ghost use Rattle.certain_parts.specs.PartsView.{PartsView};
-    ghost use Rattle.raster_model.specs.Limits.{is_raster_size};
+    ghost use Rattle.raster_model.specs.Limits.{is_tiled_size};
     ghost use Rattle.std.specs.Prelude.{◌≡◌, ◌+◌, ◌-◌, ◌*◌, ◌<◌, ◌≤◌, ℕ, IsTrue, slice_index, vec_len};
 
     ghost Value = { PartsView };
 
     ghost view = { λ p. record { width = p.width; height = p.height; labels = p.labels.items; count = vec_len p.sizes - 1 } };
 
-    ghost invariant = { λ p. IsTrue (is_raster_size p.width p.height) × (vec_len p.labels ≡ p.width * p.height) × (1 ≤ vec_len p.sizes) × (vec_len p.sizes ≤ p.width * p.height + 1) × (vec_len p.firsts ≡ vec_len p.sizes) × ((n : ℕ) → n < vec_len p.sizes → slice_index p.sizes.items n ≡ part_size (record { width = p.width; height = p.height; labels = p.labels.items; count = vec_len p.sizes - 1 }) n) × ((n : ℕ) → 1 ≤ n → n < vec_len p.sizes → slice_index p.firsts.items n ≡ first_place (record { width = p.width; height = p.height; labels = p.labels.items; count = vec_len p.sizes - 1 }) n) };
+    ghost invariant = { λ p. IsTrue (is_tiled_size p.width p.height) × (vec_len p.labels ≡ p.width * p.height) × (1 ≤ vec_len p.sizes) × (vec_len p.sizes ≤ p.width * p.height + 1) × (vec_len p.firsts ≡ vec_len p.sizes) × ((n : ℕ) → n < vec_len p.sizes → slice_index p.sizes.items n ≡ part_size (record { width = p.width; height = p.height; labels = p.labels.items; count = vec_len p.sizes - 1 }) n) × ((n : ℕ) → 1 ≤ n → n < vec_len p.sizes → slice_index p.firsts.items n ≡ first_place (record { width = p.width; height = p.height; labels = p.labels.items; count = vec_len p.sizes - 1 }) n) };
 }
 
 impl Parts {

@@ -29,10 +29,10 @@ module _ (k : Tile) (faces : List ℤ) where
   -- the numbers by which code finds it fit, and no cell outside the window has one
   pub face_fits : (x y : ℕ) → IsCellAt k.window x y → Fits w64 (k.window.x1 - k.window.x0) × Fits w64 (y - k.window.y0) × Fits w64 ((y - k.window.y0) * (k.window.x1 - k.window.x0)) × Fits w64 (x - k.window.x0) × Fits w64 ((y - k.window.y0) * (k.window.x1 - k.window.x0) + (x - k.window.x0)) × Fits w64 (((y - k.window.y0) * (k.window.x1 - k.window.x0) + (x - k.window.x0)) * 8)
   face_fits x y c =
-      let m = mul-le (y - k.window.y0) (k.window.x1 - k.window.x0) 4096 4096 (omega (arith, c, k.pixels.along, k.scene.now.phase.high)) (omega (arith, k.pixels.across, k.scene.now.phase.wide)) in
-      let l : x - k.window.x0 ≤ 4096 = omega (arith, c, k.pixels.across, k.scene.now.phase.wide) in
-      let w : k.window.x1 - k.window.x0 ≤ 4096 = omega (arith, k.pixels.across, k.scene.now.phase.wide) in
-      let h : y - k.window.y0 ≤ 4096 = omega (arith, c, k.pixels.along, k.scene.now.phase.high) in
+      let m = mul-le (y - k.window.y0) (k.window.x1 - k.window.x0) 4096 4096 (omega (arith, c, k.pixels.along, k.scene.now.high)) (omega (arith, k.pixels.across, k.scene.now.wide)) in
+      let l : x - k.window.x0 ≤ 4096 = omega (arith, c, k.pixels.across, k.scene.now.wide) in
+      let w : k.window.x1 - k.window.x0 ≤ 4096 = omega (arith, k.pixels.across, k.scene.now.wide) in
+      let h : y - k.window.y0 ≤ 4096 = omega (arith, c, k.pixels.along, k.scene.now.high) in
       (record { fits = omega (arith, w) }, record { fits = omega (arith, h) }, record { fits = omega (arith, m) }, record { fits = omega (arith, l) }, record { fits = omega (arith, m, l) }, record { fits = omega (arith, m, l) })
 
   pub no_face : (x y : ℕ) → (IsCellAt k.window x y → ⊥) → pos 0 ≡ faces_at k faces x y
@@ -109,7 +109,7 @@ module _ (k : Tile) (f : Field ℤ) where
       zero_times z = omega (arith, ints)
 
   pub cells_before_fit : (x y : ℕ) → x < k.window.x1 → y < k.window.y1 → 4096 * y + x < 2 ^ 26
-  cells_before_fit x y l m = omega (arith, l, m, k.pixels.across, k.pixels.along, k.scene.now.phase.wide, k.scene.now.phase.high)
+  cells_before_fit x y l m = omega (arith, l, m, k.pixels.across, k.pixels.along, k.scene.now.wide, k.scene.now.high)
 
   pub ends_in_raster : (x y : ℕ) → IsCellAt k.window x y → (x + 1 < k.scene.now.phase.width) × (y + 1 < k.scene.now.phase.height)
   ends_in_raster x y c = (omega (arith, c, k.pixels.across), omega (arith, c, k.pixels.along))

@@ -137,8 +137,8 @@ module _ (k : SeamFlows) (labels : List ℕ) (count : ℕ) (has : HasLabels k la
   pub label_fits : (x y a b : ℕ) → a ≡ x → b ≡ y → IsOpenPixel (held_raster k) (held_mask k) x y → Fits w64 (b * k.scene.now.phase.width) × Fits w64 (b * k.scene.now.phase.width + a) × Fits w64 ((b * k.scene.now.phase.width + a) * 4)
   label_fits x y a b p q o =
       let s = k.scene.now in
-      let m = mul-le b s.phase.width 4096 4096 (omega (arith, q, o.1, s.phase.high)) (omega (arith, s.phase.wide)) in
-      let l : a ≤ 4096 = omega (arith, p, o.0, s.phase.wide) in
+      let m = mul-le b s.phase.width 4096 4096 (omega (arith, q, o.1, s.high)) (omega (arith, s.wide)) in
+      let l : a ≤ 4096 = omega (arith, p, o.0, s.wide) in
       (record { fits = omega (arith, m) }, record { fits = omega (arith, m, l) }, record { fits = omega (arith, m, l) })
 
 -- ---- a flow taken from one region to another
@@ -146,7 +146,7 @@ pub within_more : (m n : ℕ) (xs : List ℤ) → m ≤ n → AreWithinWeights m
 within_more m n xs l h v = let k = h v in omega (arith, k, l)
 
 pub few_moves : (s : Scene) (x y : ℕ) → x < s.phase.width → y < s.phase.height → 4 * (4096 * y + x) ≤ 536870912
-few_moves s x y l m = omega (arith, s.phase.wide, s.phase.high)
+few_moves s x y l m = omega (arith, s.wide, s.high)
 
 pub amounts : (z : ℤ) → unsigned_abs z ≤ 1048560 → (to_z w64 (of_z w64 z) ≡ z) × (unsigned_abs (to_z w64 (of_z w64 z)) ≤ 1048560)
 amounts z l = (omega (arith, ints), omega (arith, ints))
@@ -265,4 +265,4 @@ flow_sum_fits a t x y k l m = (omega (arith, ints), omega (arith, ints), fits_si
 
 -- how many pixels stand before one
 pub pixels_before : (s : Scene) (x y : ℕ) → x < s.phase.width → y < s.phase.height → 4096 * y + x < 2 ^ 26
-pixels_before s x y l m = omega (arith, s.phase.wide, s.phase.high)
+pixels_before s x y l m = omega (arith, s.wide, s.high)

@@ -14,7 +14,7 @@ use Rattle.certificates.specs.EdgeOrder.{HoldsAtAll}
 use Rattle.certificates.specs.EdgeWords.{HoldsFrom}
 use Rattle.certificates.specs.SeamVerdicts.{IsSeamEdge, FlowFits, label_at}
 use Rattle.sums_and_lists.specs.Sums.{where_true}
-use Rattle.raster_model.specs.Limits.{max_side}
+use Rattle.raster_model.specs.Limits.{max_tiled_side}
 
 abbrev pub held_raster : SeamFlows → Raster
 held_raster flows = raster_of flows.scene.now
@@ -31,7 +31,7 @@ flow_or_none flows edge = where_true (is_seam_edge (held_raster flows) edge) (fl
 
 -- a pixel of the raster, before whose edges so many seam edges come in edge order
 abbrev pub StartsAt : SeamFlows → ℕ → ℕ → ℕ → Type 0
-StartsAt flows x y before = (x < flows.scene.now.phase.width) × (y < flows.scene.now.phase.height) × (before ≡ seams_before (held_raster flows) x y) × (before ≤ 2 * (max_side * y + x))
+StartsAt flows x y before = (x < flows.scene.now.phase.width) × (y < flows.scene.now.phase.height) × (before ≡ seams_before (held_raster flows) x y) × (before ≤ 2 * (max_tiled_side * y + x))
 
 -- an edge that starts at a pixel, and its place among the seam edges
 abbrev pub PlacedAt : SeamFlows → Edge → ℕ → Type 0

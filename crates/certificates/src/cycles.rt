@@ -1,4 +1,4 @@
-ghost use Rattle.raster_model.specs.Limits.{max_side};
+ghost use Rattle.raster_model.specs.Limits.{max_tiled_side};
 ghost use Rattle.certificates.specs.Growth.{AreAllInRange};
 ghost use Rattle.certificates.specs.Results.{listed_cycles, pixels_in};
 ghost use Rattle.std.specs.Prelude.{◌≡◌, ◌≤◌, ◌<◌, ◌&&◌, IsTrue, length, nat_le};
@@ -10,8 +10,8 @@ use raster_model::{Heights, MAX_TILE_CYCLES, Mask, Window};
 pub(crate) struct TileCycles<'a> {
     pub(crate) window: Window,
     pub(crate) cycles: &'a [i32],
-    pub(crate) ghost across: { (window.x0 ≤ window.x1) × (window.x1 < max_side) },
-    pub(crate) ghost along: { (window.y0 ≤ window.y1) × (window.y1 < max_side) },
+    pub(crate) ghost across: { (window.x0 ≤ window.x1) × (window.x1 < max_tiled_side) },
+    pub(crate) ghost along: { (window.y0 ≤ window.y1) × (window.y1 < max_tiled_side) },
     pub(crate) ghost count: { length cycles.now ≡ pixels_in window },
 }
 

@@ -1,5 +1,5 @@
 ghost use Rattle.raster_model.specs.Heights.{KnowsEnds};
-ghost use Rattle.raster_model.specs.Limits.{max_side};
+ghost use Rattle.raster_model.specs.Limits.{max_tiled_side};
 ghost use Rattle.raster_model.specs.Masks.{open_at};
 ghost use Rattle.raster_model.specs.Raster.{
   departure as departure_of,
@@ -43,7 +43,7 @@ pub fn edge_cost<H: Heights>(
 
 /// Whether both ends of an edge are open. If `unmasked` is true, they are known to be.
 fn are_ends_open(mask: &Mask, edge: Edge, unmasked: bool) -> bool
-    requires sides { (mask.now.width ≤ max_side) × (mask.now.height ≤ max_side) }
+    requires sides { (mask.now.width ≤ max_tiled_side) × (mask.now.height ≤ max_tiled_side) }
     requires is_edge { IsTrue (is_edge mask.now.width mask.now.height edge) }
     requires unmasked { IsTrue unmasked → IsTrue (has_open_ends (open_at mask.now) edge) }
     ensures { result ≡ has_open_ends (open_at mask.now) edge }

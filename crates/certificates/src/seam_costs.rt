@@ -8,7 +8,9 @@ ghost use Rattle.std.specs.Prelude.{◌≡◌, ◌+◌, ◌*◌, ◌<◌, ◌≤
 
 use crate::seam_edges::{is_seam_edge, next_start};
 use crate::tile_ends::TileEnds;
-use raster_model::{Edge, Heights, MAX_CYCLE_COST, MAX_DEPARTURE, MAX_SIDE, Mask, Scene, plain};
+use raster_model::{
+    Edge, Heights, MAX_CYCLE_COST, MAX_DEPARTURE, MAX_TILED_SIDE, Mask, Scene, plain,
+};
 
 /// The cost of the seams: the sum of weight times the steps of the departure over the seam edges with open ends. (Chen and
 /// Zebker 2002.)
@@ -37,7 +39,7 @@ fn row_cost<H: Heights>(scene: &Scene, ends: &TileEnds, mask: &Mask, heights: &H
     requires row { y < scene.now.phase.height }
     requires known { KnowsOpen (raster_of scene.now) (open_at mask.now) (H.knows heights.now) }
     ensures value { pos result ≡ sum_row scene.now.phase.width (seam_cost_from (raster_of scene.now) (open_at mask.now) (lifted (raster_of scene.now) (H.cycles_at heights.now))) y }
-    ensures small { result ≤ 2 * MAX_CYCLE_COST * MAX_DEPARTURE * MAX_SIDE }
+    ensures small { result ≤ 2 * MAX_CYCLE_COST * MAX_DEPARTURE * MAX_TILED_SIDE }
 {
     let mut cost: u128 = 0;
     let mut x = next_start(scene, ends, 0, y);

@@ -15,7 +15,7 @@ ghost use Rattle.std.specs.Prelude.{◌≡◌, ◌+◌, ◌*◌, ◌<◌, ◌≤
 
 use crate::edge_costs::edge_cost;
 use crate::tile::Tile;
-use raster_model::{Edge, Heights, MAX_CYCLE_COST, MAX_DEPARTURE, MAX_SIDE, departure};
+use raster_model::{Edge, Heights, MAX_CYCLE_COST, MAX_DEPARTURE, MAX_TILED_SIDE, departure};
 
 impl Tile<'_> {
     /// What the edges that start at a pixel add to the tile's cost. If `unmasked` is true, the ends of these edges are known to
@@ -170,7 +170,7 @@ impl Tile<'_> {
         requires row { (self.now.window.y0 ≤ y) × (y ≤ self.now.window.y1) }
         requires known { KnowsTile self.now (H.knows heights.now) }
         ensures value { pos result ≡ sum_row self.now.scene.now.phase.width (cost_at self.now (H.cycles_at heights.now)) y }
-        ensures small { result ≤ 2 * MAX_CYCLE_COST * MAX_DEPARTURE * MAX_SIDE }
+        ensures small { result ≤ 2 * MAX_CYCLE_COST * MAX_DEPARTURE * MAX_TILED_SIDE }
     {
         let unmasked = self.are_open_from(y);
         if self.is_free(heights, y, unmasked) {

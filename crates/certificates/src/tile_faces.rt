@@ -46,7 +46,7 @@ ghost use Rattle.std.specs.Prelude.{
 
 use crate::numbers::are_zeros;
 use crate::tile::Tile;
-use raster_model::{Edge, MAX_CYCLE_COST, MAX_SIDE, plain, stored_weight, weight};
+use raster_model::{Edge, MAX_CYCLE_COST, MAX_TILED_SIDE, plain, stored_weight, weight};
 
 impl Tile<'_> {
     /// The face of the tile's cell with the upper left corner (`x`, `y`).
@@ -365,7 +365,7 @@ impl Tile<'_> {
         requires row { (self.now.window.y0 ≤ y) × (y ≤ self.now.window.y1) }
         requires fit { AllFit self.now faces.now }
         ensures value { pos result ≡ sum_row self.now.scene.now.phase.width (over_at self.now faces.now) y }
-        ensures small { result ≤ 2 * MAX_CYCLE_COST * MAX_SIDE }
+        ensures small { result ≤ 2 * MAX_CYCLE_COST * MAX_TILED_SIDE }
     {
         let window = self.window;
         let mut over: u64 = 0;
@@ -381,7 +381,7 @@ impl Tile<'_> {
         requires count { HasFaces self.now faces.now }
         requires fit { AllFit self.now faces.now }
         ensures value { pos result ≡ over_in self.now faces.now }
-        ensures small { result ≤ 2 * MAX_CYCLE_COST * (MAX_SIDE * MAX_SIDE) }
+        ensures small { result ≤ 2 * MAX_CYCLE_COST * (MAX_TILED_SIDE * MAX_TILED_SIDE) }
     {
         if self.scene.terms.steep == 1 {
             return 0;

@@ -1,5 +1,5 @@
 ghost use Rattle.grid_writer.specs.Grids.{grid_of};
-ghost use Rattle.raster_model.specs.Limits.{is_raster_size};
+ghost use Rattle.raster_model.specs.Limits.{is_tiled_size};
 ghost use Rattle.std.specs.Prelude.{◌≡◌, ◌<◌, ◌≤◌, IsTrue, length};
 ghost use Rattle.surface_snapshots.specs.Parts.{BeginsWithRow};
 
@@ -22,7 +22,7 @@ impl Rows for Flat {
 
     fn width(&self) -> u32
         ensures width { result ≡ (grid_of self.now.grid).width }
-        ensures sized { IsTrue (is_raster_size (grid_of self.now.grid).width (grid_of self.now.grid).height) }
+        ensures sized { IsTrue (is_tiled_size (grid_of self.now.grid).width (grid_of self.now.grid).height) }
     {
         self.grid.width
     }
@@ -47,7 +47,7 @@ impl Rows for Flat {
 
 /// A grid of that size, which is 0 everywhere.
 fn zeros(rt: &impl Abort, alloc: Global, width: u32, height: u32) -> Flat
-    requires { IsTrue (is_raster_size width height) }
+    requires { IsTrue (is_tiled_size width height) }
 {
     let pixels = width as usize * height as usize;
     let values = vec![in alloc; 0; pixels].expect(rt, "memory");

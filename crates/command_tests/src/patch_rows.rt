@@ -1,4 +1,4 @@
-ghost use Rattle.raster_model.specs.Limits.{is_raster_size};
+ghost use Rattle.raster_model.specs.Limits.{is_tiled_size};
 ghost use Rattle.std.specs.Prelude.{◌≡◌, ◌*◌, ◌<◌, ◌≤◌, IsTrue, length};
 
 use crate::outcomes::same;
@@ -57,7 +57,7 @@ fn tell_patches(alloc: Global, text: &mut String, patches: &Patches) -> Result<(
 
 /// The patches of keys in words.
 fn told(rt: &impl Abort, alloc: Global, width: u32, height: u32, keys: &[i64]) -> String
-    requires limits { IsTrue (is_raster_size width height) }
+    requires limits { IsTrue (is_tiled_size width height) }
     requires full { length keys.now ≡ width * height }
 {
     let patches = Patches::of(alloc, width, height, keys).expect(rt, "memory");

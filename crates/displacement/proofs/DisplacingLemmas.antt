@@ -7,7 +7,7 @@ use Rattle.std.proofs.lemmas.List.{get_or-set_other, get_or-set_same}
 use Rattle.std.proofs.lemmas.Bool.{cases_lt}
 use Rattle.std.proofs.lemmas.Nat.{div-add-mod', div-mul-add, mod-mul-add, mul-add-lt, mul-le}
 use Rattle.sums_and_lists.proofs.Orders.{below_at_above, below_or_last}
-use Rattle.raster_model.specs.Limits.{is_raster_size}
+use Rattle.raster_model.specs.Limits.{is_tiled_size}
 use Rattle.raster_model.specs.Seams.{IsEarlier}
 use Rattle.grid_writer.specs.Grids.{GridOf, value_at}
 use Rattle.grid_writer.specs.Values.{CanStand, no_data}
@@ -140,7 +140,7 @@ at_most b n c some l k = elim (cases_lt n c) [
 some_blocks : (b n c : ℕ) → 0 < b → 1 ≤ n → n ≤ c * b → c * b < n + b → (1 ≤ c) × (c ≤ n)
 some_blocks b n c some l m k = (at_least b n c l m, at_most b n c some l k)
 
-sized_blocks : (b w h : ℕ) → 0 < b → IsTrue (is_raster_size w h) → IsTrue (is_raster_size (blocks_of b w) (blocks_of b h))
+sized_blocks : (b w h : ℕ) → 0 < b → IsTrue (is_tiled_size w h) → IsTrue (is_tiled_size (blocks_of b w) (blocks_of b h))
 sized_blocks b w h some z =
     let s = sized_parts w h z in
     let across = some_blocks b w (blocks_of b w) some s.wide (div_ceil_times w b some).0 (div_ceil_times w b some).1 in
@@ -154,8 +154,8 @@ sized_blocks b w h some z =
       few = le_trans few s.few;
     })
 
-pub few_blocks : (b w h m n : ℕ) → 0 < b → IsTrue (is_raster_size w h) → m ≡ blocks_of b w → n ≡ blocks_of b h → IsTrue (is_raster_size m n)
-few_blocks b w h m n some z e f = subst (λ (k : ℕ). IsTrue (is_raster_size k n)) (sym e) (subst (λ (k : ℕ). IsTrue (is_raster_size (blocks_of b w) k)) (sym f) (sized_blocks b w h some z))
+pub few_blocks : (b w h m n : ℕ) → 0 < b → IsTrue (is_tiled_size w h) → m ≡ blocks_of b w → n ≡ blocks_of b h → IsTrue (is_tiled_size m n)
+few_blocks b w h m n some z e f = subst (λ (k : ℕ). IsTrue (is_tiled_size k n)) (sym e) (subst (λ (k : ℕ). IsTrue (is_tiled_size (blocks_of b w) k)) (sym f) (sized_blocks b w h some z))
 
 pub displacement_is : (s : Sight) (g : GridOf) (w h : ℕ) (zs : List ℤ) → IsTrue (has_value g s.x s.y) → w ≡ blocks_of s.block g.width → h ≡ blocks_of s.block g.height → AreBlockValues s g w (w * h) zs → IsDisplacement s g (record { width = w; height = h; values = value_at w zs })
 displacement_is s g w h zs has e f a = record {

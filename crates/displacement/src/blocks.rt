@@ -2,7 +2,7 @@ ghost use Rattle.displacement.specs.Blocks.{block_count, block_sum, blocks_of};
 ghost use Rattle.displacement.specs.Displacements.{IsBlockSide};
 ghost use Rattle.displacement.specs.Steps.{IsListTotal, MayBeSum};
 ghost use Rattle.grid_writer.specs.Grids.{grid_of};
-ghost use Rattle.raster_model.specs.Limits.{max_side};
+ghost use Rattle.raster_model.specs.Limits.{max_tiled_side};
 ghost use Rattle.std.specs.Prelude.{◌≡◌, ◌≤◌, ◌<◌, ◌+◌, ◌*◌, min, length};
 
 use crate::total::Total;
@@ -23,7 +23,7 @@ fn piece_total(values: &[i64]) -> Total
 /// The first place of a block along a side, and the place after its last.
 fn block_span(number: u32, block: u32, side: u32) -> (usize, usize)
     requires blocks { IsBlockSide block }
-    requires sides { side ≤ max_side }
+    requires sides { side ≤ max_tiled_side }
     requires inside { number < blocks_of block side }
     ensures first { result.0 ≡ block * number }
     ensures last { result.1 ≡ min side (block * number + block) }

@@ -4,7 +4,7 @@ ghost use Rattle.displacement.specs.Steps.{AreBlockValues, HasBlockCause};
 ghost use Rattle.displacement.specs.declared.fault.SightFault.TheVariants as faults;
 ghost use Rattle.grid_writer.specs.Grids.{grid_of};
 ghost use Rattle.std.specs.Prelude.{◌≡◌, ◌<◌, ◌*◌, ◌⊎◌, ℕ, IsTrue, Err, IfErr, IfOk, MatchOption, false, vec_len};
-ghost use Rattle.raster_model.specs.Limits.{max_side};
+ghost use Rattle.raster_model.specs.Limits.{max_tiled_side};
 
 use crate::blocks::block_total;
 use crate::fault::SightFault;

@@ -2,7 +2,7 @@
 use Rattle.std.specs.Prelude.{◌≡◌, ℕ, ◌+◌, ◌*◌, ◌<◌, ◌≤◌, ◌⊎◌, ℤ, pos, neg_ℤ, ◌-ℤ◌, ◌≤ℤ◌, ◌==◌, unsigned_abs, Bool, false, IsTrue, ◌&&◌, if◌then◌else◌, List, length, get_or, slice_index_or, Option, Some, None}
 use Rattle.raster_model.specs.declared.scene.Scene.{Scene}
 use Rattle.raster_model.specs.declared.tiling.Window.{Window}
-use Rattle.raster_model.specs.Limits.{max_side}
+use Rattle.raster_model.specs.Limits.{max_tiled_side}
 use Rattle.raster_model.specs.Sums.{Field}
 use Rattle.raster_model.specs.Tiles.{IsWindowIn, width_of, height_of}
 use Rattle.wrapped_gradient.specs.declared.corrections.Corrections.{Corrections}
@@ -14,8 +14,8 @@ use Rattle.sums_and_lists.specs.Sums.{sum_below, where_true}
 
 -- the window has a pixel, and lies in a raster whose sides are within the limits
 pub record IsRasterWindow (window : Window) : Type 0 where
-  pub across : (window.x0 ≤ window.x1) × (window.x1 < max_side)
-  pub along : (window.y0 ≤ window.y1) × (window.y1 < max_side)
+  pub across : (window.x0 ≤ window.x1) × (window.x1 < max_tiled_side)
+  pub along : (window.y0 ≤ window.y1) × (window.y1 < max_tiled_side)
 
 -- the window lies in the scene and in the limits, and the list tells of each of its pixels whether it is open
 pub record IsMadeFor (scene : Scene) (window : Window) (unmasked : List Bool) : Type 0 where

@@ -1,7 +1,7 @@
 -- The text of a grid from its parts.
 use Rattle.std.proofs.Common.{ℕ, List, ◌++◌, append_assoc, sym, ap, ◌∙◌}
 use Rattle.std.specs.Prelude.{IsTrue}
-use Rattle.raster_model.specs.Limits.{is_raster_size}
+use Rattle.raster_model.specs.Limits.{is_tiled_size}
 use Rattle.text_pages.specs.Passages.{AddsAll}
 use Rattle.text_lines.specs.Adding.{Adds, View}
 use Rattle.text_lines.specs.Text.{texts_below}
@@ -19,7 +19,7 @@ adds_rows g p q =
     adds_is (adds_then p q) (sym (append_assoc (columns_line g.width) (rows_line g.height ++ frame_lines) rows ∙ ap (λ (l : List ℕ). columns_line g.width ++ l) (append_assoc (rows_line g.height) frame_lines rows)))
 
 -- so the whole grid, of which each row was added with its values in their range
-pub adds_grid : {v m w : View} (g : GridOf) → IsTrue (is_raster_size g.width g.height) → Adds v m (columns_line g.width ++ (rows_line g.height ++ frame_lines)) → AddsAll m w g.height (grid_row g.values g.width) (IsLongRow g) → AddsGrid v w g
+pub adds_grid : {v m w : View} (g : GridOf) → IsTrue (is_tiled_size g.width g.height) → Adds v m (columns_line g.width ++ (rows_line g.height ++ frame_lines)) → AddsAll m w g.height (grid_row g.values g.width) (IsLongRow g) → AddsGrid v w g
 adds_grid g sized head rows = record {
   added = adds_rows g head rows.added;
   ranges = record { sized = sized; fits = λ x y lx ly. rows.known y ly x lx };

@@ -5,7 +5,7 @@ use Rattle.std.specs.Fmt.{decimal}
 use Rattle.std.proofs.lemmas.Fmt.{decimal_injective, length-decimal-le}
 use Rattle.std.proofs.lemmas.List.{append_cancel_left, append_cancel_right, append-nil, length-append, length-replicate}
 use Rattle.std.proofs.lemmas.List.Elements.{All-replicate}
-use Rattle.raster_model.specs.Limits.{is_raster_size}
+use Rattle.raster_model.specs.Limits.{is_tiled_size}
 use Rattle.raster_model.specs.Sums.{Field}
 use Rattle.text_lines.specs.Forms.{AreWholeLines, IsText}
 use Rattle.text_lines.specs.Numbers.{FitsLong, numbers_line}
@@ -199,7 +199,7 @@ any_size s a b c d = record {
 values_of : (w h w' h' : ℕ) (v : Field ℤ) (t : List ℕ) → w ≡ w' → h ≡ h' → AreLong w' h' v → t ≡ grid_text w' h' v → IsGridTextOf w h t
 values_of w h w' h' v t e f long g = rw (e, f) (v, (long, g))
 
-pub one_size : (w h : ℕ) → IsTrue (is_raster_size w h) → SameForms (IsGridTextIn (record { least_width = w; most_width = w; least_height = h; most_height = h })) (IsGridTextOf w h)
+pub one_size : (w h : ℕ) → IsTrue (is_tiled_size w h) → SameForms (IsGridTextIn (record { least_width = w; most_width = w; least_height = h; most_height = h })) (IsGridTextOf w h)
 one_size w h z = record {
   to = λ t (g, (ok, (i, e))). values_of w h g.width g.height g.values t (omega (arith, i.wide, i.narrow)) (omega (arith, i.high, i.low)) ok.fits e;
   «from» = λ t (v, (long, e)). (record { width = w; height = h; values = v }, (record { sized = z; fits = long }, (record { wide = omega arith; narrow = omega arith; high = omega arith; low = omega arith }, e)));

@@ -3,7 +3,7 @@ use Rattle.std.proofs.Common.{◌≡◌, ℕ, ◌*◌, ◌/◌, ◌≤◌, ◌<�
 use Rattle.std.specs.Prelude.{IsTrue, ◌&&◌, nat_le}
 use Rattle.std.proofs.lemmas.Bool.{le-leb, leb-true}
 use Rattle.std.proofs.lemmas.Nat.{div-add-mod', le-div, mul-le}
-use Rattle.raster_model.specs.Limits.{is_raster_size}
+use Rattle.raster_model.specs.Limits.{is_tiled_size}
 use Rattle.sums_and_lists.proofs.Tests.{and_first, and_second}
 use Rattle.grid_writer.specs.declared.read.Sizes.{Sizes}
 use Rattle.grid_writer.specs.GridParts.{AreSizes, HasSizeWithin}
@@ -15,7 +15,7 @@ pub record Sized (w h : ℕ) : Type 0 where
   pub low : h ≤ 4096
   pub few : w * h ≤ 4194304
 
-pub sized_parts : (w h : ℕ) → IsTrue (is_raster_size w h) → Sized w h
+pub sized_parts : (w h : ℕ) → IsTrue (is_tiled_size w h) → Sized w h
 sized_parts w h s =
     let two = nat_le 1 w && nat_le w 4096 in
     let three = two && nat_le 1 h in
@@ -31,7 +31,7 @@ sized_parts w h s =
       few = leb-true (w * h) 4194304 (and_second four (nat_le (w * h) 4194304) s);
     }
 
-pub sized_by : (w h : ℕ) → Sized w h → IsTrue (is_raster_size w h)
+pub sized_by : (w h : ℕ) → Sized w h → IsTrue (is_tiled_size w h)
 sized_by w h s =
     let a : nat_le 1 w ≡ true = le-leb 1 w s.wide in
     let b : nat_le w 4096 ≡ true = le-leb w 4096 s.narrow in

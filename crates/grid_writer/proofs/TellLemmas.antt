@@ -5,7 +5,7 @@ use Rattle.std.specs.Fmt.{decimal}
 use Rattle.std.proofs.lemmas.Bool.{cases_eq, cases_lt}
 use Rattle.std.proofs.lemmas.List.{append-nil, length-append}
 use Rattle.std.proofs.lemmas.List.Elements.{All-append, All-nil}
-use Rattle.raster_model.specs.Limits.{is_raster_size}
+use Rattle.raster_model.specs.Limits.{is_tiled_size}
 use Rattle.raster_model.specs.Sums.{Field}
 use Rattle.text_lines.specs.Forms.{Begins, IsText, NeedsMore}
 use Rattle.text_lines.specs.Numbers.{AreLongs, FitsLong, numbers_line, numbers_text}
@@ -113,7 +113,7 @@ module _ (s : Sizes) (ok : AreSizes s) where
   sizes_decided = after_line_decided (IsCount (codes "ncols ") s.least_width s.most_width) inside (count_told (codes "ncols ") s.least_width s.most_width) some_line (IsGridTextIn s) (grid_first s ok) width_then
 
 -- a grid of a size that is known
-pub sized_decided : (w h : ℕ) → IsTrue (is_raster_size w h) → IsDecided (IsGridTextOf w h)
+pub sized_decided : (w h : ℕ) → IsTrue (is_tiled_size w h) → IsDecided (IsGridTextOf w h)
 sized_decided w h z t whole =
     let s : Sizes = record { least_width = w; most_width = w; least_height = h; most_height = h } in
     let p = sized_parts w h z in

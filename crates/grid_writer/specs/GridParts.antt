@@ -1,5 +1,5 @@
 -- The parts of a grid's text, line by line: words of helpers.
-use Rattle.raster_model.specs.declared.limits.TheConstants.{MAX_SIDE}
+use Rattle.raster_model.specs.declared.limits.TheConstants.{MAX_TILED_SIDE}
 use Rattle.std.specs.Prelude.{◌≡◌, ℕ, ◌*◌, ◌≤◌, ℤ, List, ◌++◌, decimal, length}
 use Rattle.raster_model.specs.Sums.{Field}
 use Rattle.text_lines.specs.Forms.{Form, LineOf}
@@ -33,10 +33,10 @@ IsBodyText width height text = (values : Field ℤ) × (AreLong width height val
 pub record AreSizes (s : Sizes) : Type 0 where
   pub wide : 1 ≤ s.least_width
   pub widths : s.least_width ≤ s.most_width
-  pub narrow : s.most_width ≤ MAX_SIDE
+  pub narrow : s.most_width ≤ MAX_TILED_SIDE
   pub high : 1 ≤ s.least_height
   pub heights : s.least_height ≤ s.most_height
-  pub low : s.most_height ≤ MAX_SIDE
+  pub low : s.most_height ≤ MAX_TILED_SIDE
   pub few : s.most_width * s.least_height ≤ 4194304
 
 -- a size within limits

@@ -1,6 +1,6 @@
 -- Grids as values, and the form of their text.
 use Rattle.std.specs.Prelude.{◌≡◌, ℕ, ◌+◌, ◌*◌, ◌<◌, ℤ, pos, IsTrue, List, slice_index_or}
-use Rattle.raster_model.specs.Limits.{is_raster_size}
+use Rattle.raster_model.specs.Limits.{is_tiled_size}
 use Rattle.raster_model.specs.Sums.{Field}
 use Rattle.grid_writer.specs.declared.values.Grid.{Grid}
 use Rattle.text_lines.specs.Forms.{Form}
@@ -30,7 +30,7 @@ IsLongRow grid y = (x : ℕ) → x < grid.width → FitsLong (grid.values x y)
 
 -- a size within the limits, and values that fit
 pub record IsGrid (grid : GridOf) : Type 0 where
-  pub sized : IsTrue (is_raster_size grid.width grid.height)
+  pub sized : IsTrue (is_tiled_size grid.width grid.height)
   pub fits : AreLong grid.width grid.height grid.values
 
 -- the text of a grid

@@ -2,7 +2,7 @@ ghost use Rattle.grid_writer.specs.Grid.{header_lines};
 ghost use Rattle.grid_writer.specs.Grids.{grid_of};
 ghost use Rattle.grid_writer.specs.Putting.{AddsGrid, PutsGrid};
 ghost use Rattle.grid_writer.specs.Shown.{shown_grid};
-ghost use Rattle.raster_model.specs.Limits.{is_raster_size};
+ghost use Rattle.raster_model.specs.Limits.{is_tiled_size};
 ghost use Rattle.std.specs.Prelude.{◌++◌, ◌∷◌, [], IsTrue, decimal};
 ghost use Rattle.surface_snapshots.specs.Views.{parts_of};
 ghost use Rattle.text_lines.specs.Adding.{Adds};
@@ -42,7 +42,7 @@ pub fn add_header<K: Sink>(text: &mut TextWriter<K>, width: u32, height: u32)
 
 /// Adds the header of the grid of rows.
 fn add_head<K: Sink, R: Rows>(text: &mut TextWriter<K>, rows: &R)
-    ensures sized { IsTrue (is_raster_size (R.grid rows.now).width (R.grid rows.now).height) }
+    ensures sized { IsTrue (is_tiled_size (R.grid rows.now).width (R.grid rows.now).height) }
     ensures added { Adds (view_of K.held K.faults text.old) (view_of K.held K.faults text.new) (header_lines (R.grid rows.now).width (R.grid rows.now).height) }
 {
     add_header(text, rows.width(), rows.height());

@@ -5,7 +5,7 @@ ghost use Rattle.grid_writer.specs.Reading.{IsGridRead, IsGridRefusedAt};
 ghost use Rattle.insar_ports.specs.Calls.{Moves, Takes, call_of};
 ghost use Rattle.insar_ports.specs.Feeding.{left_of, limit_of, source_name};
 ghost use Rattle.insar_ports.specs.Lines.{IsInLine};
-ghost use Rattle.raster_model.specs.Limits.{is_raster_size, max_side};
+ghost use Rattle.raster_model.specs.Limits.{is_tiled_size, max_tiled_side};
 ghost use Rattle.std.specs.Prelude.{◌≡◌, ◌≤◌, ◌<◌, ◌*◌, [], ◌++◌, ℕ, ℤ, List, All, IfErr, IfOk, IfSome, IsTrue, OnOk, decimal, length, vec_len};
 ghost use Rattle.text_lines.specs.Forms.{IsLine, IsText};
 ghost use Rattle.text_lines.specs.LineWords.{TakesLines, lines_read};
@@ -15,7 +15,7 @@ ghost use Rattle.text_lines.specs.Reading.{HasBrokenLine, HasLineCause, room_of}
 use crate::grid::FRAME;
 use crate::values::Grid;
 use insar_ports::{Feed, Source};
-use raster_model::{MAX_PIXELS, MAX_SIDE};
+use raster_model::{MAX_TILED_PIXELS, MAX_TILED_SIDE};
 use std::alloc::Global;
 use text_lines::{LineEnd, LineFault, Lines, expect_text, labelled_count, push_row};
 
@@ -37,9 +37,9 @@ struct Sizes {
 /// The sizes of all grids.
 const ANY_SIZE: Sizes = Sizes {
     least_width: 1,
-    most_width: MAX_SIDE,
+    most_width: MAX_TILED_SIDE,
     least_height: 1,
-    most_height: MAX_SIDE,
+    most_height: MAX_TILED_SIDE,
 };
 
 /// Reads a grid in the one spelling in which it is written, up to the LF of its last row. Lines are numbered from 1. After a
@@ -71,7 +71,7 @@ pub fn read_sized_grid<S: Source>(
     width: u32,
     height: u32,
 ) -> Result<Grid, LineFault>
-    requires sized { IsTrue (is_raster_size width height) }
+    requires sized { IsTrue (is_tiled_size width height) }
     ensures same_source { source_name feed.new ≡ source_name feed.old }
     ensures same_limit { limit_of feed.new ≡ limit_of feed.old }
     ensures moves { Moves (call_of S.left S.faults feed.old feed.new) }
@@ -106,7 +106,7 @@ fn read_within<S: Source>(
     ensures refused { IfErr result (HasLineCause (IsGridTextIn sizes) (lines_read lines.old) (call_of S.left S.faults feed.old feed.new)) }
 {
     let width = read_count(feed, lines, b"ncols ", sizes.least_width, sizes.most_width)?;
-    let most_height = sizes.most_height.min(MAX_PIXELS / width);
+    let most_height = sizes.most_height.min(MAX_TILED_PIXELS / width);
     let height = read_count(feed, lines, b"nrows ", sizes.least_height, most_height)?;
     read_body(alloc, feed, lines, width, height)
 }
@@ -146,7 +146,7 @@ fn read_body<S: Source>(
     width: u32,
     height: u32,
 ) -> Result<Grid, LineFault>
-    requires sized { IsTrue (is_raster_size width height) }
+    requires sized { IsTrue (is_tiled_size width height) }
     ensures same_source { source_name feed.new ≡ source_name feed.old }
     ensures same_limit { limit_of feed.new ≡ limit_of feed.old }
     ensures moves { Moves (call_of S.left S.faults feed.old feed.new) }
@@ -185,7 +185,7 @@ fn read_rows<S: Source>(
     height: u32,
     values: &mut Vec<i64>,
 ) -> Result<(), LineFault>
-    requires sized { IsTrue (is_raster_size width height) }
+    requires sized { IsTrue (is_tiled_size width height) }
     requires empty { values.old.items ≡ [] }
     ensures same_source { source_name feed.new ≡ source_name feed.old }
     ensures same_limit { limit_of feed.new ≡ limit_of feed.old }
@@ -208,7 +208,7 @@ fn read_row<S: Source>(
     width: usize,
     values: &mut Vec<i64>,
 ) -> Result<(), LineFault>
-    requires wide { (0 < width) × (width ≤ max_side) }
+    requires wide { (0 < width) × (width ≤ max_tiled_side) }
     ensures same_source { source_name feed.new ≡ source_name feed.old }
     ensures same_limit { limit_of feed.new ≡ limit_of feed.old }
     ensures moves { Moves (call_of S.left S.faults feed.old feed.new) }

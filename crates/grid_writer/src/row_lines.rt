@@ -7,12 +7,12 @@ ghost use Rattle.std.specs.Prelude.{◌++◌, ◌∷◌, []};
 
 use crate::rows::Rows;
 use insar_ports::Sink;
-use raster_model::MAX_SIDE;
+use raster_model::MAX_TILED_SIDE;
 use text_lines::{TextWriter, add_row, see_longs};
 use text_pages::Passages;
 
 /// The most values of a row.
-const MAX_WIDTH: usize = MAX_SIDE as usize;
+const MAX_WIDTH: usize = MAX_TILED_SIDE as usize;
 
 /// No value takes more bytes, with the space or the end of the line after it.
 pub(crate) const LONGEST_VALUE: u32 = 21;

@@ -1,6 +1,6 @@
 ghost use Rattle.grid_writer.specs.Grids.{GridOf};
 ghost use Rattle.grid_writer.specs.Shown.{shown_grid};
-ghost use Rattle.raster_model.specs.Limits.{is_raster_size};
+ghost use Rattle.raster_model.specs.Limits.{is_tiled_size};
 ghost use Rattle.std.specs.Prelude.{◌≡◌, ◌<◌, ◌≤◌, IsTrue, length};
 ghost use Rattle.surface_snapshots.specs.Parts.{BeginsWithRow};
 ghost use Rattle.surface_snapshots.specs.Views.{parts_of};
@@ -16,7 +16,7 @@ pub trait Rows {
     /// Pixels in a row.
     fn width(&self) -> u32
         ensures width { result ≡ (grid self.now).width }
-        ensures sized { IsTrue (is_raster_size (grid self.now).width (grid self.now).height) };
+        ensures sized { IsTrue (is_tiled_size (grid self.now).width (grid self.now).height) };
 
     /// Rows.
     fn height(&self) -> u32
@@ -36,7 +36,7 @@ impl Rows for Snapshot {
 
     fn width(&self) -> u32
         ensures width { result ≡ (shown_grid (parts_of self.now)).width }
-        ensures sized { IsTrue (is_raster_size (shown_grid (parts_of self.now)).width (shown_grid (parts_of self.now)).height) }
+        ensures sized { IsTrue (is_tiled_size (shown_grid (parts_of self.now)).width (shown_grid (parts_of self.now)).height) }
     {
         self.width()
     }

@@ -1,4 +1,4 @@
-ghost use Rattle.raster_model.specs.Limits.{is_raster_size};
+ghost use Rattle.raster_model.specs.Limits.{is_tiled_size};
 ghost use Rattle.std.specs.Prelude.{◌≡◌, ◌*◌, IsTrue, vec_len};
 
 /// The NODATA value of each grid: what stands at a pixel that has no value, as a masked one.
@@ -13,6 +13,6 @@ pub struct Grid {
     pub height: u32,
     /// One for each pixel, in row order; [`NO_DATA`] at a pixel that has no value.
     pub values: Vec<i64>,
-    pub ghost sized: { IsTrue (is_raster_size width height) },
+    pub ghost sized: { IsTrue (is_tiled_size width height) },
     pub ghost full: { vec_len values ≡ width * height },
 }

@@ -7,7 +7,7 @@ use Rattle.std.proofs.lemmas.Nat.{div-add-mod', div_below, mod_below}
 use Rattle.pgm_planes.specs.Planes.{PlaneOf}
 use Rattle.raster_model.specs.declared.plane.Plane.{Plane}
 use Rattle.raster_model.specs.declared.session.Session.{Session}
-use Rattle.raster_model.specs.Limits.{is_raster_size}
+use Rattle.raster_model.specs.Limits.{is_tiled_size}
 use Rattle.raster_model.specs.Masks.{open_at}
 use Rattle.raster_model.specs.Planes.{plane_sample}
 use Rattle.raster_model.specs.Raster.{Raster}
@@ -56,14 +56,14 @@ trial_text t s pixels residues unmasked cost made p r u least = record {
 }
 
 -- the raster of a trial that is asked for breaks no limit, so no session is made for want of memory alone
-raster_fits : (t : TrialSession) → is_raster_size t.width t.height ≡ true
+raster_fits : (t : TrialSession) → is_tiled_size t.width t.height ≡ true
 raster_fits t =
     let across = t.across in
     let along = t.along in
     let few = t.few in
     grind (arith, nat_tests, across, along, few)
 
-pub unmade_cause : (t : TrialSession) (r : Run) (fault : TrialFault) → HasKept r → (fault ≡ trial_faults.Size → is_raster_size t.width t.height ≡ false) → HasRefusalCause (Trial t) r (trial_refusal fault)
+pub unmade_cause : (t : TrialSession) (r : Run) (fault : TrialFault) → HasKept r → (fault ≡ trial_faults.Size → is_tiled_size t.width t.height ≡ false) → HasRefusalCause (Trial t) r (trial_refusal fault)
 unmade_cause t r trial_faults.Size kept small = absurd (true≢false (sym (raster_fits t) ∙ small refl))
 unmade_cause t r trial_faults.Memory kept small = (tt, kept)
 

@@ -66,7 +66,7 @@ module _ (s : Scene) (mask : Field Bool) (k : WholeResult) (good : IsGoodWhole s
   pub one_each : length k.faces.items ≡ (s.phase.width - 1) * (s.phase.height - 1)
   one_each =
       let v : Window = record { x0 = 0; y0 = 0; x1 = s.phase.width - 1; y1 = s.phase.height - 1 } in
-      let window = whole_window r v refl refl (omega (arith, s.phase.wide)) (omega (arith, s.phase.high)) in
+      let window = whole_window r v refl refl (omega (arith, s.wide)) (omega (arith, s.high)) in
       good.right.certified.certified.0 ∙ cell_count-is (whole_of r) 0 v window ∙ ap₂ (λ (a b : ℕ). a * b) (less_none (s.phase.height - 1)) (less_none (s.phase.width - 1)) ∙ mul_comm (s.phase.height - 1) (s.phase.width - 1)
 
 -- what is certified is least of all

@@ -23,7 +23,7 @@ use Rattle.clap.proofs.WalkLemmas.{first_value-rows, one_text-rows}
 use Rattle.raster_model.specs.declared.terms.Terms.{Terms}
 use Rattle.raster_model.specs.declared.weights.RuleKind.{RuleKind}
 use Rattle.raster_model.specs.declared.weights.RuleKind.TheVariants.{Least, Mean, Product}
-use Rattle.raster_model.specs.Limits.{IsSlope, IsSteepness, IsTileSide, max_pixels}
+use Rattle.raster_model.specs.Limits.{IsSlope, IsSteepness, IsTileSide, max_tiled_pixels}
 use Rattle.insar_words.specs.Asked.{AreTaken, Asks, AsksBy, IsCheck, IsCheckWhole, IsCommand, IsGridCommand, IsRefused, IsSideAsked, IsSideByDefault, IsTooLarge, IsTrialCommand, IsWatch, IsWhole, OneCommand, Options, asked, asks_by_names, has_names, is_named, number_asked, slope_asked, slope_for}
 use Rattle.insar_words.specs.Faults.{fault_of_kind}
 use Rattle.insar_words.specs.Forms.{CommandForm, Each, OfOne, arguments_of, check_form, check_whole_form, closure_form, displacement_form, forms, grid_form, is_among, nearest_form, parts_form, rule_entry, rule_name, rule_names, screen_form, trial_form, unwrap_form, watch_form, whole_form}
@@ -162,7 +162,7 @@ same_trial s t seeds widths heights settings = λ i.
       settings = settings i;
       across = is_prop→PathP (λ j. IsTrialSide (widths j)) (λ j. ×_prop le_prop le_prop) s.across t.across i;
       along = is_prop→PathP (λ j. IsTrialSide (heights j)) (λ j. ×_prop le_prop le_prop) s.along t.along i;
-      few = is_prop→PathP (λ j. widths j * heights j ≤ max_pixels) (λ j. le_prop) s.few t.few i;
+      few = is_prop→PathP (λ j. widths j * heights j ≤ max_tiled_pixels) (λ j. le_prop) s.few t.few i;
     }
 
 same_screening : (s t : Screening) → s.weight ≡ t.weight → s.radius ≡ t.radius → s.count ≡ t.count → s.patch ≡ t.patch → s.side ≡ t.side → s ≡ t
@@ -308,7 +308,7 @@ asks_trial words rows taken named has names =
     let width = number_there (codes "width") 1 4096 rows has.1.0 in
     let height = number_there (codes "height") 1 4096 rows has.1.1.0 in
     let asks : Asks (codes "trial") words (options_of s.0) = record { taken = taken; rows = rows; named = named; rule_is = s.1.0.0.0; side_is = s.1.0.1; ramp_x_is = s.1.0.0.1.0; ramp_y_is = s.1.0.0.1.1.0; steep_is = s.1.0.0.1.1.1 } in
-    elim (cases_lt max_pixels (width.0 * height.0)) [
+    elim (cases_lt max_tiled_pixels (width.0 * height.0)) [
       | inl large ↦ inl (seed.0, width.0, height.0, options_of s.0, (record { asks = asks; seed_is = seed.1; width_is = width.1; height_is = height.1 }, large))
       | inr few ↦
           let trial : TrialSession = record { seed = seed.0; width = width.0; height = height.0; settings = s.0; across = width.2; along = height.2; few = few } in
@@ -396,7 +396,7 @@ asked_some words taken =
 -- ---- refused, or asking
 
 -- rows with few pixels, and so a request, do not tell too many
-few_told : (width height : ℕ) (rows : List Row) → number_asked (codes "width") rows ≡ Some width → number_asked (codes "height") rows ≡ Some height → width * height ≤ max_pixels → TellsTooMany rows → ⊥
+few_told : (width height : ℕ) (rows : List Row) → number_asked (codes "width") rows ≡ Some width → number_asked (codes "height") rows ≡ Some height → width * height ≤ max_tiled_pixels → TellsTooMany rows → ⊥
 few_told width height rows across along few large =
     let widths : large.0 ≡ width = cc in
     let heights : large.1 ≡ height = cc in

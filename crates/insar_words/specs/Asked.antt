@@ -7,7 +7,7 @@ use Rattle.std.specs.Str.Parse.{digits_value, without_leading_plus}
 use Rattle.clap.specs.Words.{Row, Text, fault_of, first_of, one_of, subcommand_of}
 use Rattle.clap.specs.Walk.{texts}
 use Rattle.raster_model.specs.declared.weights.RuleKind.{RuleKind}
-use Rattle.raster_model.specs.Limits.{max_pixels}
+use Rattle.raster_model.specs.Limits.{max_tiled_pixels}
 use Rattle.insar_words.specs.Forms.{CommandForm, Taking, arguments_of, forms, is_among, names, rule_name}
 use Rattle.insar_words.specs.Stated.{stated}
 
@@ -111,11 +111,11 @@ pub record AsksTrial (words : List (Bor Text)) (seed width height : ℕ) (option
 -- the words ask for `trial`, with no more pixels than a session may have
 pub record IsTrialCommand (words : List (Bor Text)) (seed width height : ℕ) (options : Options) : Type 0 where
   pub asks : AsksTrial words seed width height options
-  pub pixels : width * height ≤ max_pixels
+  pub pixels : width * height ≤ max_tiled_pixels
 
 -- the words ask for a test session with more pixels
 abbrev pub IsTooLarge : List (Bor Text) → Type 0
-IsTooLarge words = (seed : ℕ) × (width : ℕ) × (height : ℕ) × (options : Options) × (AsksTrial words seed width height options × (max_pixels < width * height))
+IsTooLarge words = (seed : ℕ) × (width : ℕ) × (height : ℕ) × (options : Options) × (AsksTrial words seed width height options × (max_tiled_pixels < width * height))
 
 -- the words are refused: they are not taken, or they ask for too many pixels
 abbrev pub IsRefused : List (Bor Text) → Type 0

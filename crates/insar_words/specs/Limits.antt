@@ -1,6 +1,6 @@
 -- Limits of what words may ask.
 use Rattle.std.specs.Prelude.{◌≤◌, ℕ}
-use Rattle.raster_model.specs.Limits.{max_pixels, max_side}
+use Rattle.raster_model.specs.Limits.{max_tiled_pixels, max_tiled_side}
 use Rattle.raster_model.specs.declared.limits.TheConstants.{MAX_WORKERS}
 
 -- how many workers there may be
@@ -16,7 +16,7 @@ IsReads reads = (1 ≤ reads) × (reads ≤ 4096)
 
 -- sides that the raster of a test session may have
 abbrev pub IsTrialSide : ℕ → Type 0
-IsTrialSide pixels = (1 ≤ pixels) × (pixels ≤ max_side)
+IsTrialSide pixels = (1 ≤ pixels) × (pixels ≤ max_tiled_side)
 
 -- how far a near pixel may be away, how many pixels may be asked for near another, and in a patch
 abbrev pub IsScreenRadius : ℕ → Type 0
@@ -26,7 +26,7 @@ abbrev pub IsNearCount : ℕ → Type 0
 IsNearCount count = count ≤ 16641
 
 abbrev pub IsPatchSize : ℕ → Type 0
-IsPatchSize pixels = pixels ≤ max_pixels
+IsPatchSize pixels = pixels ≤ max_tiled_pixels
 
 -- wavelengths in nanometres, columns and rows of a reference pixel, and sides of blocks in pixels
 abbrev pub IsWavelengthAsked : ℕ → Type 0
@@ -40,4 +40,4 @@ IsBlockAsked block = (1 ≤ block) × (block ≤ 64)
 
 -- how many pixels may be asked for in a part
 abbrev pub IsLeastPart : ℕ → Type 0
-IsLeastPart pixels = (1 ≤ pixels) × (pixels ≤ max_pixels)
+IsLeastPart pixels = (1 ≤ pixels) × (pixels ≤ max_tiled_pixels)

@@ -8,7 +8,7 @@ use Rattle.clap.specs.Words.{Row, Text, first_of}
 use Rattle.clap.specs.Walk.{texts}
 use Rattle.raster_model.specs.declared.weights.RuleKind.{RuleKind}
 use Rattle.raster_model.specs.declared.weights.RuleKind.TheVariants.{Least, Mean, Product}
-use Rattle.raster_model.specs.Limits.{max_pixels}
+use Rattle.raster_model.specs.Limits.{max_tiled_pixels}
 use Rattle.insar_words.specs.Asked.{AreTaken, AsksWorkers, IsCheck, IsCheckWhole, IsTrialCommand, IsWholeWith, Options, asked, number_asked, slope_for}
 use Rattle.insar_words.specs.Forms.{Argument, CommandForm, Each, OfOne, Value, block_entry, checking, count_entry, displacing, fits, forms, least_entry, margin_entry, name, number, parting, patch_entry, radius_entry, ramp_x_entry, ramp_y_entry, readers_entry, reads_entry, rule_entry, screening, solving, steep_entry, tile_entry, watching, wavelength_entry, weight_entry, whole_checking, whole_solving, word_of, workers_entry, x_entry, y_entry}
 use Rattle.insar_words.specs.Requests.{IsRequest, options_of}
@@ -131,7 +131,7 @@ PlainCheckIsRead = (words : List (Bor Text)) (settings : List Setting) → ArePl
 
 -- and `trial` with its positionals
 abbrev pub PlainTrialIsRead : Type 0
-PlainTrialIsRead = (words : List (Bor Text)) (seed width height : ℕ) (settings : List Setting) → seed < 2 ^ 64 → IsTrialSide width → IsTrialSide height → width * height ≤ max_pixels → ArePlain solving settings
+PlainTrialIsRead = (words : List (Bor Text)) (seed width height : ℕ) (settings : List Setting) → seed < 2 ^ 64 → IsTrialSide width → IsTrialSide height → width * height ≤ max_tiled_pixels → ArePlain solving settings
     → texts words ≡ codes "trial" ∷ decimal seed ∷ decimal width ∷ decimal height ∷ pairs settings
     → IsTrialCommand words seed width height (options_set settings) × AsksWorkers (codes "trial") words (options_set settings) (workers_set settings)
 

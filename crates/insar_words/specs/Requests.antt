@@ -2,7 +2,7 @@
 use Rattle.std.specs.Prelude.{◌≡◌, ◌⊎◌, ◌*◌, ◌<◌, ℕ, false, List, Some, codes, ⊤}
 use Rattle.std.specs.Borrow.{Bor}
 use Rattle.clap.specs.Words.{Row, Text, first_of}
-use Rattle.raster_model.specs.Limits.{max_pixels}
+use Rattle.raster_model.specs.Limits.{max_tiled_pixels}
 use Rattle.insar_words.specs.Asked.{AreTaken, IsCheck, IsCheckWhole, IsCommand, IsGridCommand, IsRefused, IsSideAsked, IsSideByDefault, IsTrialCommand, IsWatch, IsWhole, Options, asked, asks_by_names, is_named, number_asked, slope_asked}
 use Rattle.insar_words.specs.Forms.{rule_entry, rule_name}
 use Rattle.insar_words.specs.declared.fault.WordsFault.{WordsFault}
@@ -58,7 +58,7 @@ TellsDisplacing rows displacing = (number_asked (codes "wavelength") rows ≡ So
 
 -- a raster with too many pixels
 abbrev pub TellsTooMany : List Row → Type 0
-TellsTooMany rows = (width : ℕ) × (height : ℕ) × ((number_asked (codes "width") rows ≡ Some width) × ((number_asked (codes "height") rows ≡ Some height) × (max_pixels < width * height)))
+TellsTooMany rows = (width : ℕ) × (height : ℕ) × ((number_asked (codes "width") rows ≡ Some width) × ((number_asked (codes "height") rows ≡ Some height) × (max_tiled_pixels < width * height)))
 
 -- a rule that there is not
 abbrev pub NamesNoRule : List Row → Type 0

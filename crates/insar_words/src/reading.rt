@@ -17,7 +17,7 @@ use crate::stated::stated_command;
 use crate::trial::Trial;
 use crate::watching::Watching;
 use clap::ArgMatches;
-use raster_model::{DEFAULT_TILE_SIDE, DEFAULT_WORKERS, MAX_PIXELS, RuleKind, Terms};
+use raster_model::{DEFAULT_TILE_SIDE, DEFAULT_WORKERS, MAX_TILED_PIXELS, RuleKind, Terms};
 use std::alloc::Global;
 
 /// What words ask for, as the stated command reads them. Words are refused if that command refuses them, a call for
@@ -82,7 +82,7 @@ fn trial_of(found: &ArgMatches<'_>) -> Option<Trial>
     let settings = solving_settings(found)?;
     let width = number_told(found, "width");
     let height = number_told(found, "height");
-    if width * height > MAX_PIXELS {
+    if width * height > MAX_TILED_PIXELS {
         return None;
     }
     Some(Trial {

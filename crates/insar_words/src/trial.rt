@@ -1,5 +1,5 @@
 ghost use Rattle.insar_words.specs.Limits.{IsTrialSide};
-ghost use Rattle.raster_model.specs.Limits.{max_pixels};
+ghost use Rattle.raster_model.specs.Limits.{max_tiled_pixels};
 ghost use Rattle.std.specs.Prelude.{◌*◌, ◌≤◌};
 
 use crate::settings::Settings;
@@ -17,5 +17,5 @@ pub struct Trial {
     pub settings: Settings,
     pub ghost across: { IsTrialSide width },
     pub ghost along: { IsTrialSide height },
-    pub ghost few: { width * height ≤ max_pixels },
+    pub ghost few: { width * height ≤ max_tiled_pixels },
 }

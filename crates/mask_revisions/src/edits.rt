@@ -1,4 +1,4 @@
-ghost use Rattle.raster_model.specs.Limits.{max_side};
+ghost use Rattle.raster_model.specs.Limits.{max_tiled_side};
 ghost use Rattle.mask_revisions.specs.Edits.{opens as opens_pixels};
 ghost use Rattle.mask_revisions.specs.Steps.{HasOther, IsAll, IsBoxSet};
 ghost use Rattle.raster_model.specs.Masks.{open_at};
@@ -29,7 +29,7 @@ pub fn opens(edit: Edit) -> bool
 /// Opens or masks the pixels of a box. Answers whether one changed.
 pub fn set_box(mask: &mut Mask, rect: Rect, unmasked: bool) -> bool
     requires rect { IsRectIn mask.old.width mask.old.height rect }
-    requires small { mask.old.height ≤ max_side }
+    requires small { mask.old.height ≤ max_tiled_side }
     ensures set { IsBoxSet mask.old mask.new rect.x0 (rect.x1 + 1) rect.y0 (rect.y1 + 1) unmasked }
     ensures changed { MatchBool result (HasOther (open_at mask.old) rect.x0 (rect.x1 + 1) rect.y0 (rect.y1 + 1) unmasked) (IsAll (open_at mask.old) rect.x0 (rect.x1 + 1) rect.y0 (rect.y1 + 1) unmasked) }
 {

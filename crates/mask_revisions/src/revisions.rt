@@ -1,5 +1,5 @@
 ghost use Rattle.mask_revisions.specs.Windows.{AreListedBefore};
-ghost use Rattle.raster_model.specs.Limits.{max_side};
+ghost use Rattle.raster_model.specs.Limits.{max_tiled_side};
 ghost use Rattle.raster_model.specs.Masks.{open_at};
 ghost use Rattle.raster_model.specs.Tiles.{width_of};
 ghost use Rattle.std.specs.Prelude.{◌≡◌, ◌+◌, ◌-◌, ◌*◌, ◌<◌, ◌≤◌, OnOk};
@@ -133,7 +133,7 @@ impl Revisions {
 
 /// Adds to a list, for each pixel of a window's row, whether it is open.
 fn add_row(mask: &Mask, window: Window, y: u32, list: &mut Vec<bool>) -> Result<(), AllocError>
-    requires across { (window.x0 ≤ window.x1) × (window.x1 < mask.now.width) × (mask.now.width ≤ max_side) }
+    requires across { (window.x0 ≤ window.x1) × (window.x1 < mask.now.width) × (mask.now.width ≤ max_tiled_side) }
     requires row { (window.y0 ≤ y) × (y < mask.now.height) }
     requires listed { AreListedBefore window (open_at mask.now) ((y - window.y0) * width_of window) list.old.items }
     ensures { OnOk result (AreListedBefore window (open_at mask.now) ((y + 1 - window.y0) * width_of window) list.new.items) }

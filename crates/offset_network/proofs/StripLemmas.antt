@@ -99,7 +99,7 @@ module _ (r : Raster) (mask : Field Bool) (labels : Field ℕ) (cycles : Field �
 -- they are no more than there can be
 pub links_fit : (s : Scene) (mask : Field Bool) (labels : Field ℕ) (cycles : Field ℤ) (n : ℕ) (links : List (Option Link)) → AreStripLinks (raster_of s) mask labels cycles 0 s.phase.height links → JoinRegions n links → n ≤ 3145728 → AreLinks n links
 links_fit s mask labels cycles n links p join few = record {
-  few = (let r = raster_of s in omega (arith, p.count, before-none r, seams_few r s.phase.height s.phase.wide.1, s.phase.high));
+  few = (let r = raster_of s in omega (arith, p.count, before-none r, seams_few r s.phase.height s.wide.1, s.high));
   regions = few;
   each = join;
 }

@@ -1,9 +1,9 @@
 ghost use Rattle.offset_network.specs.Places.{ArePlaces, IsSpotOf, tile_place};
-ghost use Rattle.raster_model.specs.Limits.{IsTileSide, max_side};
+ghost use Rattle.raster_model.specs.Limits.{IsTileSide, max_tiled_side};
 ghost use Rattle.raster_model.specs.Tiles.{columns_of_tiles};
 ghost use Rattle.std.specs.Prelude.{◌*◌, ◌≡◌, ◌<◌, ◌≤◌, IfOk};
 
-use raster_model::{MAX_SIDE, Tiling, Window};
+use raster_model::{MAX_TILED_SIDE, Tiling, Window};
 use std::alloc::{AllocError, Global};
 
 /// Where a column or a row of a raster lies among the tiles.
@@ -75,9 +75,9 @@ impl TilePlaces {
 /// The place of a column or a row, of which there are `count`. From one tile to the next its part of the number is `step`
 /// more.
 fn one_place(index: u32, count: u32, side: u32, step: u32) -> Place
-    requires within { (index < count) × (count ≤ max_side) }
+    requires within { (index < count) × (count ≤ max_tiled_side) }
     requires side { IsTileSide side }
-    requires step { step ≤ 2 * MAX_SIDE }
+    requires step { step ≤ 2 * MAX_TILED_SIDE }
     ensures { result ≡ tile_place count side step index }
 {
     let block = index / side;
@@ -91,9 +91,9 @@ fn one_place(index: u32, count: u32, side: u32, step: u32) -> Place
 
 /// The places of all columns or of all rows.
 fn places(alloc: Global, count: u32, side: u32, step: u32) -> Result<Vec<Place>, AllocError>
-    requires few { count ≤ max_side }
+    requires few { count ≤ max_tiled_side }
     requires side { IsTileSide side }
-    requires step { step ≤ 2 * MAX_SIDE }
+    requires step { step ≤ 2 * MAX_TILED_SIDE }
     ensures { IfOk result (λ places. ArePlaces count side step count places.items) }
 {
     let mut places = Vec::with_capacity(alloc, count as usize)?;

@@ -7,7 +7,7 @@ use Rattle.pgm_planes.specs.declared.fault.Role.TheVariants.{Phase, Weight, Mask
 use Rattle.pgm_planes.specs.declared.spelling.Spelling.{Spelling}
 use Rattle.pgm_planes.specs.declared.spelling.Spelling.TheVariants.{Raw, Plain}
 use Rattle.pgm_planes.specs.Gaps.{is_space, is_gap, is_blank, is_number, capped_number, begins}
-use Rattle.raster_model.specs.Limits.{max_pixels, max_side}
+use Rattle.raster_model.specs.Limits.{max_tiled_pixels, max_tiled_side}
 
 -- a plane without where its samples lie in memory
 pub record PlaneOf : Type 0 where
@@ -27,9 +27,9 @@ HasMaxval Mask maxval = (1 ≤ maxval) × (maxval ≤ 65535)
 
 -- sides from 1 to 4,096, and at most 4,194,304 pixels
 pub record IsSize (width height : ℕ) : Type 0 where
-  pub across : (1 ≤ width) × (width ≤ max_side)
-  pub along : (1 ≤ height) × (height ≤ max_side)
-  pub pixels : width * height ≤ max_pixels
+  pub across : (1 ≤ width) × (width ≤ max_tiled_side)
+  pub along : (1 ≤ height) × (height ≤ max_tiled_side)
+  pub pixels : width * height ≤ max_tiled_pixels
 
 -- a size within the limits, a maxval of the role, a sample for each pixel, none above maxval
 pub record IsPlane (role : Role) (p : PlaneOf) : Type 0 where

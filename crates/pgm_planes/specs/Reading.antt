@@ -16,7 +16,7 @@ use Rattle.pgm_planes.specs.declared.samples.SampleForm.{SampleForm}
 use Rattle.pgm_planes.specs.declared.samples.SampleForm.TheVariants.{Narrow, Wide, Digits}
 use Rattle.pgm_planes.specs.Gaps.{is_space, is_line_end, is_digit}
 use Rattle.pgm_planes.specs.Planes.{PlaneOf}
-use Rattle.raster_model.specs.Limits.{max_pixels, max_side}
+use Rattle.raster_model.specs.Limits.{max_tiled_pixels, max_tiled_side}
 
 -- a value, the place after it and the bytes from there, or the break, or none where another byte is asked for
 abbrev pub Reading : Type 0 → Type 0
@@ -147,7 +147,7 @@ pub record HeaderOf : Type 0 where
 
 -- a side or the pixels break a limit
 abbrev pub is_too_large : ℕ → ℕ → Bool
-is_too_large width height = (width == 0) || (nat_lt max_side width) || (height == 0) || (nat_lt max_side height) || (nat_lt max_pixels (width * height))
+is_too_large width height = (width == 0) || (nat_lt max_tiled_side width) || (height == 0) || (nat_lt max_tiled_side height) || (nat_lt max_tiled_pixels (width * height))
 
 -- what is wrong with a maxval whose first digit stands at the place
 abbrev pub maxval_break : Role → ℕ → ℕ → Option PlaneFault

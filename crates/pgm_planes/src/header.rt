@@ -8,7 +8,7 @@ ghost use Rattle.pgm_planes.specs.Reading.{Reads, nothing, byte_at, sight_at, oc
 use crate::fault::{PlaneFault, ReadPlaneFault, Role};
 use crate::spelling::Spelling;
 use insar_ports::{Feed, Source};
-use raster_model::{MAX_PIXELS, MAX_SIDE};
+use raster_model::{MAX_TILED_PIXELS, MAX_TILED_SIDE};
 
 /// The numbers of a plane's header, which are within the limits.
 #[derive(Clone, Copy)]
@@ -229,8 +229,8 @@ fn header_break(role: Role, width: u32, height: u32, maxval: u32, place: u64) ->
     ensures fits { IfNone result (IsSize width height × HasMaxval role maxval) }
     ensures valued { IfNone result ((1 ≤ maxval) × (maxval ≤ 65535)) }
 {
-    let sides = 1..=MAX_SIDE;
-    if !sides.contains(&width) || !sides.contains(&height) || width * height > MAX_PIXELS {
+    let sides = 1..=MAX_TILED_SIDE;
+    if !sides.contains(&width) || !sides.contains(&height) || width * height > MAX_TILED_PIXELS {
         return Some(PlaneFault::Size { width, height });
     }
     match role {

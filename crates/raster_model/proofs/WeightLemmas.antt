@@ -1,10 +1,10 @@
--- What a scene holds for an edge is the rule's number.
+-- What a sheet holds for an edge is the rule's number.
 use Rattle.std.proofs.Common.{◌≡◌, ℕ, ◌+◌, ◌-◌, ◌*◌, ◌<◌, arith, Bool, true, false, refl}
 use Rattle.std.specs.Prelude.{IsTrue, nat_lt, ◌&&◌, slice_index, if◌then◌else◌}
 use Rattle.std.proofs.lemmas.Bool.Decides.{nat_tests}
 use Rattle.std.proofs.lemmas.Nat.{mul-add-lt}
 use Rattle.raster_model.specs.declared.edge.Edge.{Edge}
-use Rattle.raster_model.specs.declared.scene.Scene.{Scene}
+use Rattle.raster_model.specs.declared.sheet.Sheet.{Sheet}
 use Rattle.raster_model.specs.Sums.{is_edge}
 use Rattle.raster_model.specs.Weights.{edge_weight, stored_weight}
 
@@ -33,28 +33,28 @@ if_false : (t : Bool) (a b n : ℕ) → t ≡ false → (if t then a else b) ≡
 if_false false a b n e h = h
 if_false true a b n e h = cc
 
-module _ (s : Scene) (e : Edge) (i : IsTrue (is_edge s.phase.width s.phase.height e)) where
-  pub stored_is : stored_weight s.phase.width s.edges e ≡ edge_weight s.rule s.weights e
+module _ (s : Sheet) (e : Edge) (i : IsTrue (is_edge s.phase.now.width s.phase.now.height e)) where
+  pub stored_is : stored_weight s.phase.now.width s.edges.now e ≡ edge_weight s.rule s.weights.now e
   stored_is =
-      let wide : s.weights.width ≡ s.phase.width = s.same_width.0 in
-      let high : s.weights.height ≡ s.phase.height = s.same_height.0 in
+      let wide : s.weights.now.width ≡ s.phase.now.width = s.same_width in
+      let high : s.weights.now.height ≡ s.phase.now.height = s.same_height in
       let at = rw (← wide, ← high) at i in
       rw (← wide) (s.weighed.weighed e at)
 
-  pub down_is : e.down ≡ true → slice_index s.edges.down.items (e.y * s.phase.width + e.x) ≡ edge_weight s.rule s.weights e
-  down_is d = if_true e.down (slice_index s.edges.down.items (e.y * s.phase.width + e.x)) (slice_index s.edges.right.items (e.y * (s.phase.width - 1) + e.x)) (edge_weight s.rule s.weights e) d stored_is
+  pub down_is : e.down ≡ true → slice_index s.edges.now.down.items (e.y * s.phase.now.width + e.x) ≡ edge_weight s.rule s.weights.now e
+  down_is d = if_true e.down (slice_index s.edges.now.down.items (e.y * s.phase.now.width + e.x)) (slice_index s.edges.now.right.items (e.y * (s.phase.now.width - 1) + e.x)) (edge_weight s.rule s.weights.now e) d stored_is
 
-  pub right_is : e.down ≡ false → slice_index s.edges.right.items (e.y * (s.phase.width - 1) + e.x) ≡ edge_weight s.rule s.weights e
-  right_is d = if_false e.down (slice_index s.edges.down.items (e.y * s.phase.width + e.x)) (slice_index s.edges.right.items (e.y * (s.phase.width - 1) + e.x)) (edge_weight s.rule s.weights e) d stored_is
+  pub right_is : e.down ≡ false → slice_index s.edges.now.right.items (e.y * (s.phase.now.width - 1) + e.x) ≡ edge_weight s.rule s.weights.now e
+  right_is d = if_false e.down (slice_index s.edges.now.down.items (e.y * s.phase.now.width + e.x)) (slice_index s.edges.now.right.items (e.y * (s.phase.now.width - 1) + e.x)) (edge_weight s.rule s.weights.now e) d stored_is
 
-  pub down_within : e.down ≡ true → e.y * s.phase.width + e.x < s.edges.down.len
-  down_within d = omega (arith, down_place s.phase.width s.phase.height e d i, s.weighed.downs, count s.weights.width s.weights.height s.phase.width s.phase.height s.same_width.0 s.same_height.0)
+  pub down_within : e.down ≡ true → e.y * s.phase.now.width + e.x < s.edges.now.down.len
+  down_within d = omega (arith, down_place s.phase.now.width s.phase.now.height e d i, s.weighed.downs, count s.weights.now.width s.weights.now.height s.phase.now.width s.phase.now.height s.same_width s.same_height)
     where
       count : (a b w h : ℕ) → a ≡ w → b ≡ h → a * (b - 1) ≡ w * (h - 1)
       count a b w h p q = rw (p, q) refl
 
-  pub right_within : e.down ≡ false → e.y * (s.phase.width - 1) + e.x < s.edges.right.len
-  right_within d = omega (arith, right_place s.phase.width s.phase.height e d i, s.weighed.rights, count s.weights.width s.weights.height s.phase.width s.phase.height s.same_width.0 s.same_height.0)
+  pub right_within : e.down ≡ false → e.y * (s.phase.now.width - 1) + e.x < s.edges.now.right.len
+  right_within d = omega (arith, right_place s.phase.now.width s.phase.now.height e d i, s.weighed.rights, count s.weights.now.width s.weights.now.height s.phase.now.width s.phase.now.height s.same_width s.same_height)
     where
       count : (a b w h : ℕ) → a ≡ w → b ≡ h → (a - 1) * b ≡ (w - 1) * h
       count a b w h p q = rw (p, q) refl

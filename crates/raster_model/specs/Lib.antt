@@ -19,6 +19,7 @@ pub mod MaskWords
 pub mod Masks
 pub mod Terms
 pub mod Scene
+pub mod Sheets
 pub mod Sessions
 pub mod Heights
 pub mod Scripts

@@ -15,6 +15,7 @@ mod plane;
 mod scene;
 mod script;
 mod session;
+mod sheet;
 mod terms;
 mod tiling;
 mod weights;
@@ -26,7 +27,8 @@ pub use crate::limits::{
     MAX_CYCLE_COST, MAX_DEPARTURE, MAX_FURTHER_COST, MAX_HEIGHT, MAX_NETWORK_NODES, MAX_OFFSET,
     MAX_PIXELS, MAX_REACHED_CYCLES, MAX_REGIONS, MAX_REPORT_BYTES, MAX_SEAM_DEPARTURE,
     MAX_SESSION_BYTES, MAX_SETTLED_PIXELS, MAX_SIDE, MAX_STEEPNESS, MAX_TILE_CYCLES, MAX_TILE_SIDE,
-    MAX_WEIGHT, MAX_WHOLE_CYCLES, MAX_WORKERS, MIN_TILE_SIDE, is_raster_size,
+    MAX_TILED_PIXELS, MAX_TILED_SIDE, MAX_WEIGHT, MAX_WHOLE_CYCLES, MAX_WORKERS, MIN_TILE_SIDE,
+    is_raster_size, is_tiled_size,
 };
 pub use crate::mask::Mask;
 pub use crate::measures::{departure, first_open, stored_weight, turns, weight};
@@ -35,6 +37,7 @@ pub use crate::plane::{Plane, PlaneShape};
 pub use crate::scene::Scene;
 pub use crate::script::{Command, Edit, Rect, Script};
 pub use crate::session::Session;
+pub use crate::sheet::Sheet;
 pub use crate::terms::Terms;
 pub use crate::tiling::{Tiling, Window};
 pub use crate::weights::{EdgeWeights, RuleKind};

@@ -1,11 +1,17 @@
-ghost use Rattle.raster_model.specs.Limits.{is_raster_size as fits_limits};
+ghost use Rattle.raster_model.specs.Limits.{is_raster_size as fits_limits, is_tiled_size as fits_tiles};
 ghost use Rattle.std.specs.Prelude.{◌≡◌};
 
 /// The greatest width or height of a raster, in pixels.
-pub const MAX_SIDE: u32 = 4096;
+pub const MAX_SIDE: u32 = 65_535;
 
 /// The greatest number of pixels of a raster.
-pub const MAX_PIXELS: u32 = 4_194_304;
+pub const MAX_PIXELS: u32 = 268_435_456;
+
+/// The greatest width or height of a raster that has tiles, in pixels.
+pub const MAX_TILED_SIDE: u32 = 4096;
+
+/// The greatest number of pixels of a raster that has tiles.
+pub const MAX_TILED_PIXELS: u32 = 4_194_304;
 
 /// The greatest weight of an edge.
 pub const MAX_WEIGHT: u32 = 65_535;
@@ -79,8 +85,7 @@ pub const MAX_SESSION_BYTES: u64 = 268_435_456;
 /// The greatest number of bytes of a report's text that is read.
 pub const MAX_REPORT_BYTES: u64 = 4_294_967_296;
 
-/// Whether a raster may have this width and height: each from 1 to `MAX_SIDE`, and no more than
-/// `MAX_PIXELS` pixels.
+/// Whether a raster may have this width and height: each from 1 to `MAX_SIDE`, and no more than `MAX_PIXELS` pixels.
 pub fn is_raster_size(width: u32, height: u32) -> bool
     ensures { result ≡ fits_limits width height }
 {
@@ -89,4 +94,16 @@ pub fn is_raster_size(width: u32, height: u32) -> bool
         && 1 <= height
         && height <= MAX_SIDE
         && width * height <= MAX_PIXELS
+}
+
+/// Whether a raster of this width and height may have tiles: each from 1 to `MAX_TILED_SIDE`, and no more than
+/// `MAX_TILED_PIXELS` pixels.
+pub fn is_tiled_size(width: u32, height: u32) -> bool
+    ensures { result ≡ fits_tiles width height }
+{
+    1 <= width
+        && width <= MAX_TILED_SIDE
+        && 1 <= height
+        && height <= MAX_TILED_SIDE
+        && width * height <= MAX_TILED_PIXELS
 }

@@ -10,7 +10,6 @@ use crate::edge::Edge;
 use crate::heights::Heights;
 use crate::limits::MAX_DEPARTURE;
 use crate::mask::Mask;
-use crate::phase::turns_ramp;
 use crate::scene::Scene;
 
 /// The weight of an edge under a mask: 0 if an end is masked.
@@ -19,11 +18,7 @@ pub fn weight(scene: &Scene, mask: &Mask, edge: Edge) -> u16
     requires is_edge { IsTrue (is_edge scene.now.phase.width scene.now.phase.height edge) }
     ensures { result ≡ masked_weight (raster_of scene.now) (open_at mask.now) edge }
 {
-    if mask.is_open(edge.x, edge.y) && mask.is_open(edge.end_x(), edge.end_y()) {
-        stored_weight(scene, edge)
-    } else {
-        0
-    }
+    scene.sheet().weight(mask, edge)
 }
 
 /// The weight of an edge before any mask, as the scene holds it.
@@ -31,13 +26,7 @@ pub fn stored_weight(scene: &Scene, edge: Edge) -> u16
     requires { IsTrue (is_edge scene.now.phase.width scene.now.phase.height edge) }
     ensures { result ≡ edge_weight scene.now.rule scene.now.weights edge }
 {
-    let width = scene.phase.width as usize;
-    let (x, y) = (edge.x as usize, edge.y as usize);
-    if edge.down {
-        scene.edges.down[y * width + x]
-    } else {
-        scene.edges.right[y * (width - 1) + x]
-    }
+    scene.sheet().stored_weight(edge)
 }
 
 /// The whole cycles that the wrapped difference of an edge, around its slope, leaves out of the difference of the phases
@@ -47,9 +36,7 @@ pub fn turns(scene: &Scene, edge: Edge) -> i32
     ensures value { result ≡ turns_of (raster_of scene.now) edge }
     ensures small { unsigned_abs result ≤ 1 }
 {
-    let from = scene.phase.sample(edge.x, edge.y);
-    let to = scene.phase.sample(edge.end_x(), edge.end_y());
-    turns_ramp(from, to, scene.terms.slope(edge.down))
+    scene.sheet().turns(edge)
 }
 
 /// The whole cycles by which a surface departs from the wrapped difference of an edge, whose ends are open.
@@ -61,9 +48,7 @@ pub fn departure<H: Heights>(scene: &Scene, heights: &H, edge: Edge) -> i64
     ensures value { result ≡ departure_of (raster_of scene.now) (lifted (raster_of scene.now) (H.cycles_at heights.now)) edge }
     ensures small { unsigned_abs result ≤ MAX_DEPARTURE }
 {
-    let to = heights.cycles(edge.end_x(), edge.end_y());
-    let from = heights.cycles(edge.x, edge.y);
-    to - from + i64::from(turns(scene, edge))
+    scene.sheet().departure(heights, edge)
 }
 
 /// The first open pixel in row order.
@@ -72,12 +57,5 @@ pub fn first_open(scene: &Scene, mask: &Mask) -> Option<(u32, u32)>
     ensures found { IfSome result (λ pixel. IsFirstOpen (raster_of scene.now) (open_at mask.now) pixel.0 pixel.1) }
     ensures none { IfNone result ((x y : ℕ) → IsOpenPixel (raster_of scene.now) (open_at mask.now) x y → ⊥) }
 {
-    for y in 0..scene.phase.height {
-        for x in 0..scene.phase.width {
-            if mask.is_open(x, y) {
-                return Some((x, y));
-            }
-        }
-    }
-    None
+    scene.sheet().first_open(mask)
 }

@@ -1,4 +1,4 @@
-ghost use Rattle.raster_model.specs.Limits.{IsTileSide, max_pixels, max_side};
+ghost use Rattle.raster_model.specs.Limits.{IsTileSide, max_side, max_tiled_pixels, max_tiled_side};
 ghost use Rattle.std.specs.Prelude.{◌≡◌, ◌*◌, ◌≤◌};
 
 /// The square tiles of a raster, numbered from 0, row by row. The last tile of a row or a column may be
@@ -11,9 +11,9 @@ pub struct Tiling {
     pub height: u32,
     /// Pixels along a side of a tile.
     pub side: u32,
-    pub ghost wide: { (1 ≤ width) × (width ≤ max_side) },
-    pub ghost high: { (1 ≤ height) × (height ≤ max_side) },
-    pub ghost few: { width * height ≤ max_pixels },
+    pub ghost wide: { (1 ≤ width) × (width ≤ max_tiled_side) },
+    pub ghost high: { (1 ≤ height) × (height ≤ max_tiled_side) },
+    pub ghost few: { width * height ≤ max_tiled_pixels },
     pub ghost sides: { IsTileSide side },
 }
 
@@ -58,13 +58,13 @@ impl Window {
 }
 
 impl Tiling {
-    ghost use Rattle.raster_model.specs.Limits.{is_raster_size};
+    ghost use Rattle.raster_model.specs.Limits.{is_tiled_size};
     ghost use Rattle.raster_model.specs.Tiles.{columns_of_tiles, rows_of_tiles, tiles_of, tile_at, window_of, IsWindowOf};
     ghost use Rattle.std.specs.Prelude.{◌<◌, ◌+◌, IsTrue};
 
     /// The tiles of this side in a raster of this size.
     pub fn new(width: u32, height: u32, side: u32) -> Tiling
-        requires size { IsTrue (is_raster_size width height) }
+        requires size { IsTrue (is_tiled_size width height) }
         requires sides { IsTileSide side }
         ensures { (result.width ≡ width) × (result.height ≡ height) × (result.side ≡ side) }
     {
@@ -78,7 +78,7 @@ impl Tiling {
     /// How many tiles there are.
     pub fn tile_count(&self) -> u32
         ensures count { result ≡ tiles_of self.now }
-        ensures few { result ≤ max_pixels }
+        ensures few { result ≤ max_tiled_pixels }
     {
         self.rows() * self.columns()
     }

@@ -1,4 +1,4 @@
-ghost use Rattle.raster_model.specs.Limits.{is_raster_size};
+ghost use Rattle.raster_model.specs.Limits.{is_tiled_size};
 ghost use Rattle.raster_model.specs.Scripts.{IsRectIn, rect_of};
 ghost use Rattle.raster_model.specs.Tiles.{tiles_of};
 ghost use Rattle.std.specs.Prelude.{◌≡◌, ◌+◌, ◌<◌, ◌≤◌, IfOk, IsTrue, OnOk, true};
@@ -13,7 +13,7 @@ use worked_scenes::number;
 
 /// Revision 0 of a raster with every pixel open.
 fn all_open(alloc: Global, tiling: Tiling) -> Result<Revisions, AllocError>
-    requires { IsTrue (is_raster_size tiling.width tiling.height) }
+    requires { IsTrue (is_tiled_size tiling.width tiling.height) }
     ensures tiling { IfOk result (λ made. made.tiling ≡ tiling) }
 {
     let mask = Mask::all_open(alloc, tiling.width, tiling.height)?;
@@ -82,7 +82,7 @@ fn opened(
 /// What two edits change, and after them the count of revisions, whether the third and the fourth pixel are open, and the
 /// tiles.
 fn told(alloc: Global, tiling: Tiling, first: Edit, second: Edit) -> Result<String, AllocError>
-    requires size { IsTrue (is_raster_size tiling.width tiling.height) }
+    requires size { IsTrue (is_tiled_size tiling.width tiling.height) }
     requires wide { 3 < tiling.width }
     requires first { IsRectIn tiling.width tiling.height (rect_of first) }
     requires second { IsRectIn tiling.width tiling.height (rect_of second) }
@@ -190,7 +190,7 @@ fn masked_and_opened(
     masked: Rect,
     opened: Rect,
 ) -> Result<String, AllocError>
-    requires size { IsTrue (is_raster_size tiling.width tiling.height) }
+    requires size { IsTrue (is_tiled_size tiling.width tiling.height) }
     requires masked { IsRectIn tiling.width tiling.height masked }
     requires opened { IsRectIn tiling.width tiling.height opened }
 {

@@ -2,7 +2,7 @@
 use Rattle.std.proofs.Common.{◌≡◌, ℕ, zero, suc, ◌≤◌, Bool, true, false, IsTrue, List, [], ◌∷◌, ◌++◌, length, Option, Some, None, inl, inr, refl, sym, ap, subst, ◌∙◌, arith}
 use Rattle.std.specs.Prelude.{codes}
 use Rattle.std.proofs.lemmas.List.{length-append}
-use Rattle.raster_model.specs.Limits.{is_raster_size}
+use Rattle.raster_model.specs.Limits.{is_tiled_size}
 use Rattle.text_lines.specs.Forms.{AreWholeLines, Form}
 use Rattle.text_lines.specs.Numbers.{AreLongs}
 use Rattle.text_lines.specs.Parsing.{IsWide}
@@ -52,7 +52,7 @@ terms_decided version t w = elim (either version) [
 
 -- ---- surfaces and items
 
-module _ (width height tiles : ℕ) (z : IsTrue (is_raster_size width height)) (small : IsWide tiles) where
+module _ (width height tiles : ℕ) (z : IsTrue (is_tiled_size width height)) (small : IsWide tiles) where
   certificates_decided : IsDecided (TextOf (AreCertificates tiles) (certificates_text tiles))
   certificates_decided = turn_decided (faces_part tiles small) (line_part flows_kind) (lines_decided AreLongs faces_line tiles (inside tiles small) ([], none_long) (λ t _. faces_told t)) (kind_decided flows_kind flows_told)
 

@@ -1,7 +1,7 @@
 -- Items of a report as forms: the line of an entry, after a publication a surface, and so on up to the line `end`.
 use Rattle.std.proofs.Common.{◌≡◌, ℕ, Bool, true, false, IsTrue, List, [], ◌∷◌, ◌++◌, Option, Some, None, inr, refl, sym, ap, subst, ◌∙◌, append_assoc, flat_map}
 use Rattle.std.specs.Prelude.{codes, is_some}
-use Rattle.raster_model.specs.Limits.{is_raster_size}
+use Rattle.raster_model.specs.Limits.{is_tiled_size}
 use Rattle.text_lines.specs.Forms.{Form, AreWholeLines}
 use Rattle.text_lines.specs.Parsing.{IsWide}
 use Rattle.text_lines.proofs.FormLemmas.{ComesFirst, ComesAfter, whole_append}
@@ -50,7 +50,7 @@ module _ (width height tiles : ℕ) where
   AfterLine None text = text ≡ []
   AfterLine (Some e) text = AfterEntry (is_published e) text
 
-  module _ (z : IsTrue (is_raster_size width height)) (small : IsWide tiles) where
+  module _ (z : IsTrue (is_tiled_size width height)) (small : IsWide tiles) where
     pub surface_code : IsCode (IsSurfaceText width height tiles)
     surface_code = let part = surface_part width height z tiles small in part.code
 

@@ -4,7 +4,7 @@ use Rattle.std.specs.Prelude.{ℤ, codes}
 use Rattle.std.proofs.Math.Nat.{div-le_self}
 use Rattle.std.proofs.lemmas.Bool.{cases_lt}
 use Rattle.insar_ports.specs.Lines.{IsInLine}
-use Rattle.raster_model.specs.Limits.{is_raster_size, IsTileSide}
+use Rattle.raster_model.specs.Limits.{is_tiled_size, IsTileSide}
 use Rattle.raster_model.specs.declared.script.Edit.TheVariants.{Mask, Unmask}
 use Rattle.raster_model.specs.declared.script.Rect.{Rect}
 use Rattle.tile_board.specs.declared.entry.Entry.{Entry}
@@ -66,7 +66,7 @@ side_fits side s = fits_more (fits_both (word_fits (codes "tile") refl) (field_f
 along_small : (pixels side : ℕ) → pixels ≤ 4096 → IsTileSide side → (pixels + side - 1) / side ≤ 4223
 along_small pixels side p s = let q = div-le_self (pixels + side - 1) side in let t = s.1 in omega (arith, p, q, t)
 
-pub tiles_small : (w h side : ℕ) → IsTrue (is_raster_size w h) → IsTileSide side → IsWide (tiles_by w h side)
+pub tiles_small : (w h side : ℕ) → IsTrue (is_tiled_size w h) → IsTileSide side → IsWide (tiles_by w h side)
 tiles_small w h side z s = let p = size_parts w h z in let c = mul-le-mul (along_small h side p.1 s) (along_small w side p.0 s) in omega (arith, c)
 
 -- lines of numbers, which may be long

@@ -3,7 +3,7 @@ use Rattle.std.proofs.Common.{◌≡◌, ℕ, ◌<◌, ℤ, IsTrue, List, [], �
 use Rattle.std.specs.Prelude.{◌==◌, false}
 use Rattle.std.proofs.lemmas.Bool.{cases_Bool, eqb-true, false_from_ne_true}
 use Rattle.sums_and_lists.proofs.Tests.{true_and_false}
-use Rattle.raster_model.specs.Limits.{is_raster_size, IsSteepness, IsTileSide}
+use Rattle.raster_model.specs.Limits.{is_tiled_size, IsSteepness, IsTileSide}
 use Rattle.text_lines.specs.Forms.{Form}
 use Rattle.text_lines.specs.Numbers.{AreLongs}
 use Rattle.text_lines.specs.Parsing.{IsWide}
@@ -157,7 +157,7 @@ surface_is width height tiles k = refl
 pub certificates_part : (tiles : ℕ) → IsWide tiles → IsPart (AreCertificates tiles) (certificates_text tiles)
 certificates_part tiles small = turn_part (faces_part tiles small) (line_part flows_kind)
 
-module _ (width height : ℕ) (z : IsTrue (is_raster_size width height)) where
+module _ (width height : ℕ) (z : IsTrue (is_tiled_size width height)) where
   module _ (tiles : ℕ) (small : IsWide tiles) where
     abbrev pub Block : Form
     Block = TextOf (both AreCosts (AreSolved width height tiles)) (in_turn (ended_line costs_line) (solved_text width height tiles))

@@ -4,7 +4,7 @@ use Rattle.std.specs.Prelude.{filter_map, IsTrue}
 use Rattle.std.specs.List.{AllByRecursion}
 use Rattle.std.proofs.lemmas.Bool.Decides.{nat_tests}
 use Rattle.raster_model.specs.declared.session.Session.{Session}
-use Rattle.raster_model.specs.Limits.{is_raster_size}
+use Rattle.raster_model.specs.Limits.{is_tiled_size}
 use Rattle.raster_model.specs.Tiles.{tiles_of}
 use Rattle.surface_snapshots.specs.Parts.{Parts}
 use Rattle.tile_board.specs.declared.entry.Entry.{Entry}
@@ -32,8 +32,8 @@ module _ (width height tiles : ℕ) where
   items_in_range (e ∷ es) ps told small = let first = small.0 in (record { entry = first.entry; published = refl; surface = tt }, items_in_range es ps told small.1)
 
 -- the report of a board
-sized : (s : Session) → IsTrue (is_raster_size s.scene.phase.width s.scene.phase.height)
-sized s = let w = s.scene.phase.wide in let h = s.scene.phase.high in let n = s.scene.phase.few in grind (arith, nat_tests)
+sized : (s : Session) → IsTrue (is_tiled_size s.scene.phase.width s.scene.phase.height)
+sized s = let w = s.scene.wide in let h = s.scene.high in let n = s.scene.few in grind (arith, nat_tests)
 
 pub board_in_range : (v : BoardView) → IsBoard v → AreSmallItems v.session.scene.phase.width v.session.scene.phase.height (tiles_of v.session.scene.tiling) (items_of v.entries v.surfaces) → IsReport (report_of v.session v.entries v.surfaces)
 board_in_range v is small = record {

@@ -2,7 +2,7 @@
 use Rattle.std.proofs.Common.{◌≡◌, ℕ, zero, suc, ℤ, IsTrue, List, [], ◌∷◌, ◌++◌, slice_get, Option, Some, None, refl, sym, ap, subst, ◌∙◌}
 use Rattle.std.specs.Prelude.{codes, is_some}
 use Rattle.std.proofs.lemmas.List.{append_cancel_left, append_cancel_right}
-use Rattle.raster_model.specs.Limits.{is_raster_size}
+use Rattle.raster_model.specs.Limits.{is_tiled_size}
 use Rattle.grid_writer.specs.Grid.{grid_text}
 use Rattle.grid_writer.specs.Grids.{GridOf}
 use Rattle.grid_writer.proofs.GridReads.{grids_cancel}
@@ -29,7 +29,7 @@ use Rattle.report_text.proofs.ReportForms.{front_of, report_is, tiles_for}
 after_front : (front : List ℕ) (a b : List ℤ) → AreLongs a → AreLongs b → (front ++ numbers_text a) ++ line_end ≡ (front ++ numbers_text b) ++ line_end → a ≡ b
 after_front front a b f g e = numbers_unique a b f g (append_cancel_left front (numbers_text a) (numbers_text b) (append_cancel_right (front ++ numbers_text a) (front ++ numbers_text b) line_end e))
 
-module _ (width height tiles : ℕ) (z : IsTrue (is_raster_size width height)) (small : IsWide tiles) where
+module _ (width height tiles : ℕ) (z : IsTrue (is_tiled_size width height)) (small : IsWide tiles) where
   abbrev grid_by : SurfaceOf → GridOf
   grid_by k = record { width = width; height = height; values = k.values }
 

@@ -2,7 +2,7 @@
 use Rattle.std.specs.Prelude.{◌≡◌, ℕ, ◌<◌, ℤ, IsTrue, List, [], map, slice_index_or, Option, Some, None, ⊤}
 use Rattle.std.specs.List.{AllByRecursion}
 use Rattle.std.specs.Global.{Vec, Box}
-use Rattle.raster_model.specs.Limits.{is_raster_size, IsTileSide}
+use Rattle.raster_model.specs.Limits.{is_tiled_size, IsTileSide}
 use Rattle.raster_model.specs.declared.script.Edit.TheVariants.{Mask, Unmask}
 use Rattle.text_lines.specs.Forms.{Form}
 use Rattle.grid_writer.specs.Grids.{AreLong, value_at}
@@ -67,7 +67,7 @@ pub record IsItemInRange (width height tiles : ℕ) (i : ItemOf) : Type 0 where
 
 pub record IsReport (report : ReportOf) : Type 0 where
   pub versioned : IsVersion report.version
-  pub sized : IsTrue (is_raster_size report.width report.height)
+  pub sized : IsTrue (is_tiled_size report.width report.height)
   pub sides : IsTileSide report.side
   pub terms : AreTermsIn report.version report.terms
   pub items : AllByRecursion (IsItemInRange report.width report.height (tiles_in report)) report.items

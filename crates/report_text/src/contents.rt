@@ -1,4 +1,4 @@
-ghost use Rattle.raster_model.specs.Limits.{is_raster_size, IsTileSide};
+ghost use Rattle.raster_model.specs.Limits.{is_tiled_size, IsTileSide};
 ghost use Rattle.report_text.specs.Fitting.{ItemsFit};
 ghost use Rattle.report_text.specs.Terms.{AreTermsIn};
 ghost use Rattle.std.specs.Prelude.{◌≤◌, IsTrue};
@@ -26,7 +26,7 @@ pub struct Report {
     pub items: Vec<Item>,
     pub ghost versioned: { (1 ≤ version) × (version ≤ 2) },
     pub ghost terms_in: { AreTermsIn version (terms_of terms) },
-    pub ghost sized: { IsTrue (is_raster_size width height) },
+    pub ghost sized: { IsTrue (is_tiled_size width height) },
     pub ghost sides: { IsTileSide side },
     pub ghost fitting: { ItemsFit width height side items.items },
 }

@@ -1,4 +1,4 @@
-ghost use Rattle.raster_model.specs.Limits.{is_raster_size, IsTileSide};
+ghost use Rattle.raster_model.specs.Limits.{is_tiled_size, IsTileSide};
 ghost use Rattle.report_text.specs.Text.{tiles_by};
 ghost use Rattle.std.specs.Prelude.{◌≡◌, IsTrue};
 ghost use Rattle.text_lines.specs.Parsing.{IsWide};
@@ -15,7 +15,7 @@ pub(crate) struct Head {
     pub rule: RuleKind,
     /// How many tiles there are.
     pub tiles: u32,
-    pub ghost sized: { IsTrue (is_raster_size width height) },
+    pub ghost sized: { IsTrue (is_tiled_size width height) },
     pub ghost sides: { IsTileSide side },
     pub ghost counted: { tiles ≡ tiles_by width height side },
     pub ghost few: { IsWide tiles },

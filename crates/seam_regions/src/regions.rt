@@ -18,7 +18,7 @@ pub struct Regions {
 }
 
 impl Model for Regions {
-    ghost use Rattle.raster_model.specs.Limits.{max_side};
+    ghost use Rattle.raster_model.specs.Limits.{max_tiled_side};
     ghost use Rattle.seam_regions.specs.Regions.{most_regions};
     ghost use Rattle.seam_regions.specs.RegionsView.{RegionsView};
     ghost use Rattle.std.specs.Prelude.{◌≡◌, ◌*◌, ◌≤◌, vec_len};
@@ -27,7 +27,7 @@ impl Model for Regions {
 
     ghost view = { λ r. record { width = r.width; height = r.height; labels = r.labels.items; count = r.count } };
 
-    ghost invariant = { λ r. (1 ≤ r.width) × (r.width ≤ max_side) × (1 ≤ r.height) × (r.height ≤ max_side) × (vec_len r.labels ≡ r.width * r.height) × (r.count ≤ most_regions) };
+    ghost invariant = { λ r. (1 ≤ r.width) × (r.width ≤ max_tiled_side) × (1 ≤ r.height) × (r.height ≤ max_tiled_side) × (vec_len r.labels ≡ r.width * r.height) × (r.count ≤ most_regions) };
 }
 
 impl Regions {

@@ -11,11 +11,11 @@ use crate::line::{ANALYST, END, MASK, SETTLE, SHOW, UNMASK};
 use crate::word::Word;
 use insar_ports::{Sink, WriteFault};
 use pgm_planes::{add_header, add_plane};
-use raster_model::{Command, Edit, MAX_SIDE, Mask, Script, Session};
+use raster_model::{Command, Edit, MAX_TILED_SIDE, Mask, Script, Session};
 use text_lines::{TextWriter, add_rect};
 
 /// The most pixels of a row.
-const MAX_WIDTH: usize = MAX_SIDE as usize;
+const MAX_WIDTH: usize = MAX_TILED_SIDE as usize;
 
 /// Writes a session: the planes of phase, weights and mask in raw form, the mask with the maxval 1, then for each analyst
 /// the line `analyst` and the commands, and the line `end`. It takes no memory.

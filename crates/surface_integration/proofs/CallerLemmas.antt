@@ -60,8 +60,8 @@ pub zeros_small : (s : Scene) (g : GradientsView) (k : Corrections) → AreGradi
 zeros_small s g k h z =
     let a = h.inside.across in
     let b = h.inside.along in
-    let wide = s.phase.wide in
-    let high = s.phase.high in
+    let wide = s.wide in
+    let high = s.high in
     rw (zeros_greatest k z) (omega (arith, a, b, wide, high))
 
 -- the window is the whole raster

@@ -86,8 +86,8 @@ pub wide_room : (s : Scene) (g : GradientsView) (k : Corrections) → AreGradien
 wide_room s g k h small =
     let a = h.inside.across in
     let b = h.inside.along in
-    let wide = s.phase.wide in
-    let high = s.phase.high in
+    let wide = s.wide in
+    let high = s.high in
     mul-le (width_of g.window + height_of g.window) (greatest_of k + 1) 8192 2147483648 (omega (arith, a, b, wide, high)) (omega (arith, small))
 
 pub wide_within : (s : Scene) (g : GradientsView) (k : Corrections) (cycles : Field ℤ) → AreGradientsOf s g → greatest_of k < 2147483647 → StaySmall g.window cycles (greatest_of k) → LieWithin g.window cycles (2 ^ 44)

@@ -47,7 +47,7 @@ mask_is_told s m v across along is pixels listed =
     let h = s.phase.height in
     let wide : v.width ≡ w = is.width ∙ s.same_width.1 in
     let high : v.height ≡ h = is.height ∙ s.same_height.1 in
-    let some : 0 < w = omega (arith, s.phase.wide) in
+    let some : 0 < w = omega (arith, s.wide) in
     let told = tests_told w h v.count m.unmasked v.labels some (pixels ∙ rw (across, along) refl) (listed ∙ rw (wide, high) refl) (λ x y l k. rw (across, wide) at (test_told (region_label v x y) v.count (open_at m x y) (label_below s m v across along is x y l k) (label_open s m v across along is x y l k))) in
     ap (λ (n : ℕ). record { width = n; height = m.height; unmasked = m.unmasked }) (across ∙ sym wide)
     ∙ ap (λ (n : ℕ). record { width = v.width; height = n; unmasked = m.unmasked }) (along ∙ sym high)

@@ -134,7 +134,7 @@ module _ (s : ShiftedTiles) (rows place : ℕ) (c n : Costs) (begins : place * r
   strips_more = rows_more (raster_under s) (open_under s) (lifted (raster_under s) (cycles_under s)) 0 (place * rows) next c n (omega arith) onward so_far told
 
   pub strips_fit : (c.tiles + n.tiles < 2 ^ 128) × (c.seams + n.seams < 2 ^ 128)
-  strips_fit = rows_fit (raster_under s) (open_under s) (lifted (raster_under s) (cycles_under s)) 0 (place * rows) next c n (omega arith) onward so_far told (omega (arith, s.scene.now.phase.high))
+  strips_fit = rows_fit (raster_under s) (open_under s) (lifted (raster_under s) (cycles_under s)) 0 (place * rows) next c n (omega arith) onward so_far told (omega (arith, s.scene.now.high))
 
 -- what is known of a row that is listed: its open pixels, and those of the next one
 pub row_known : (s : ShiftedTiles) (start n y : ℕ) → HaveRow s start n y → KnowsOpenRows (raster_under s) (open_under s) (is_open_there s start n) y (y + 1)

@@ -1,5 +1,5 @@
 -- Words of helpers and of ghost fields: no clause of a public function cites them.
-use Rattle.raster_model.specs.declared.limits.TheConstants.{MAX_CYCLE_COST, MAX_DEPARTURE, MAX_SIDE}
+use Rattle.raster_model.specs.declared.limits.TheConstants.{MAX_CYCLE_COST, MAX_DEPARTURE, MAX_TILED_SIDE}
 use Rattle.std.specs.Prelude.{◌≡◌, ℕ, ◌+◌, ◌-◌, ◌*◌, ◌<◌, ◌≤◌, ◌^◌, ℤ, ◌+ℤ◌, pos, Bool, not, IsTrue, List}
 use Rattle.raster_model.specs.declared.edge.Edge.{Edge}
 use Rattle.raster_model.specs.declared.scene.Scene.{Scene}
@@ -30,7 +30,7 @@ abbrev pub AreOfRows : Raster → Field Bool → Field ℤ → ℕ → ℕ → C
 AreOfRows r mask S a b costs =
     (sum_grid r.width b (inner_cost_from r mask S) ≡ sum_grid r.width a (inner_cost_from r mask S) +ℤ pos costs.tiles)
     × (sum_grid r.width b (seam_cost_from r mask S) ≡ sum_grid r.width a (seam_cost_from r mask S) +ℤ pos costs.seams)
-    × AreOfEdges (2 * MAX_SIDE * (b - a)) costs
+    × AreOfEdges (2 * MAX_TILED_SIDE * (b - a)) costs
 
 -- the pixels of row y and of the next one from column x to column z are open, as far as the raster goes
 abbrev pub AreOpenFrom : MaskView → ℕ → ℕ → ℕ → Type 0

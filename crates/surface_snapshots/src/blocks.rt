@@ -8,7 +8,7 @@ ghost use Rattle.surface_snapshots.specs.Strips.{AddNothing, AreCounted, HaveRow
 use crate::counting::{Costs, NO_COSTS, PIECE, costs_from};
 use crate::marks::{is_any_marked, mark_departures};
 use crate::shifted::ShiftedTiles;
-use raster_model::{Heights, MAX_SIDE, Mask};
+use raster_model::{Heights, MAX_TILED_SIDE, Mask};
 
 /// How many rows a block has at most.
 pub(crate) const ROWS: u32 = 16;
@@ -107,7 +107,7 @@ fn costs_of_row(mask: &Mask, block: &Block<'_>, y: u32) -> Costs
     requires listed { HaveRow block.now.surface block.now.start (length block.now.cycles.now) y }
     ensures tiles { pos result.tiles ≡ sum_row block.now.surface.scene.now.phase.width (tile_costs_from block.now.surface) y }
     ensures seams { pos result.seams ≡ sum_row block.now.surface.scene.now.phase.width (seam_costs_from block.now.surface) y }
-    ensures small { AreOfEdges (2 * MAX_SIDE) result }
+    ensures small { AreOfEdges (2 * MAX_TILED_SIDE) result }
 {
     let width = block.surface.scene.phase.width;
     let mut costs = NO_COSTS;

@@ -1,6 +1,6 @@
 ghost use Rattle.certificates.specs.Ends.{passes_end};
 ghost use Rattle.raster_model.specs.Heights.{KnowsOpen};
-ghost use Rattle.raster_model.specs.Limits.{max_side};
+ghost use Rattle.raster_model.specs.Limits.{max_tiled_side};
 ghost use Rattle.raster_model.specs.Masks.{open_at};
 ghost use Rattle.raster_model.specs.Raster.{has_open_ends, is_seam, lifted, seam_cost as seam_cost_of, seam_cost_from, seam_edge_cost};
 ghost use Rattle.raster_model.specs.Scene.{raster_of};
@@ -11,7 +11,7 @@ ghost use Rattle.surface_snapshots.specs.Loops.{AddUpTo, AreOfEdges, AreOfRows, 
 ghost use Rattle.surface_snapshots.specs.Parts.{tile_costs};
 
 use certificates::edge_cost;
-use raster_model::{Edge, Heights, MAX_SIDE, Mask, Scene, departure};
+use raster_model::{Edge, Heights, MAX_TILED_SIDE, Mask, Scene, departure};
 use seam_regions::next_left;
 
 /// What a surface costs.
@@ -81,7 +81,7 @@ fn row_costs<H: Heights>(scene: &Scene, mask: &Mask, heights: &H, y: u32) -> Cos
     requires row { y < scene.now.phase.height }
     ensures tiles { pos result.tiles ≡ sum_row scene.now.phase.width (inner_cost_from (raster_of scene.now) (open_at mask.now) (lifted (raster_of scene.now) (H.cycles_at heights.now))) y }
     ensures seams { pos result.seams ≡ sum_row scene.now.phase.width (seam_cost_from (raster_of scene.now) (open_at mask.now) (lifted (raster_of scene.now) (H.cycles_at heights.now))) y }
-    ensures small { AreOfEdges (2 * MAX_SIDE) result }
+    ensures small { AreOfEdges (2 * MAX_TILED_SIDE) result }
 {
     let width = scene.phase.width;
     let mut costs = NO_COSTS;
@@ -242,7 +242,7 @@ fn costs_at<H: Heights>(
 /// are known to be.
 fn are_open_at(mask: &Mask, x: u32, y: u32, unmasked: bool) -> bool
     requires pixel { (x < mask.now.width) × (y < mask.now.height) }
-    requires wide { mask.now.width ≤ max_side }
+    requires wide { mask.now.width ≤ max_tiled_side }
     requires unmasked { IsTrue unmasked → AreOpenFrom mask.now y x (x + 1) }
     ensures { IsTrue result → AreOpenFrom mask.now y x (x + 1) }
 {

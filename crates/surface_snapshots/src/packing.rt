@@ -1,4 +1,4 @@
-ghost use Rattle.raster_model.specs.Limits.{max_side};
+ghost use Rattle.raster_model.specs.Limits.{max_tiled_side};
 ghost use Rattle.std.specs.Prelude.{◌≡◌, ℕ, ◌+◌, ◌*◌, ◌<◌, ◌≤◌, IfOk, IfSome, Some, [], length, slice_get, slice_index};
 ghost use Rattle.surface_snapshots.specs.Runs.{ArePacked, Extends, runs_of};
 ghost use Rattle.surface_snapshots.specs.Packing.{AreLabelsBefore};
@@ -104,8 +104,8 @@ pub(crate) fn list_labels(
     window: Window,
     list: &mut Vec<u32>,
 ) -> Result<(), AllocError>
-    requires across { (window.x0 ≤ window.x1) × (window.x1 < width) × (width ≤ max_side) }
-    requires along { (window.y0 ≤ window.y1) × (window.y1 < max_side) }
+    requires across { (window.x0 ≤ window.x1) × (window.x1 < width) × (width ≤ max_tiled_side) }
+    requires along { (window.y0 ≤ window.y1) × (window.y1 < max_tiled_side) }
     requires size { (window.y1 + 1) * width ≤ length all.now }
     ensures { IfOk result (λ _. AreLabelsBefore all.now width window (window.y1 + 1) list.new.items) }
 {

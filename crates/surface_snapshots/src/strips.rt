@@ -1,4 +1,4 @@
-ghost use Rattle.raster_model.specs.Limits.{max_side};
+ghost use Rattle.raster_model.specs.Limits.{max_tiled_side};
 ghost use Rattle.std.specs.Int.{div_ceil};
 ghost use Rattle.std.specs.Prelude.{◌≡◌, ◌+◌, ◌*◌, ◌<◌, ◌≤◌, All, IfOk, length, min};
 ghost use Rattle.surface_snapshots.specs.Shifted.{mask_under};
@@ -50,7 +50,7 @@ impl Costs {
 
 /// So many strips, of so many rows of a width.
 fn strips(alloc: Global, count: u32, rows: u32, width: u32) -> Result<Vec<Strip>, AllocError>
-    requires { width ≤ max_side }
+    requires { width ≤ max_tiled_side }
     ensures len { IfOk result (λ strips. strips.len ≡ count) }
     ensures room { IfOk result (λ strips. All (HasRoom rows width) strips.items) }
 {

@@ -6,7 +6,7 @@ use Rattle.std.proofs.lemmas.Bool.Decides.{nat_tests}
 use Rattle.std.proofs.lemmas.Fmt.{length-decimal-le, length_signed_le}
 use Rattle.std.proofs.lemmas.List.{length-append}
 use Rattle.std.proofs.lemmas.List.Elements.{All-head, All-tail}
-use Rattle.raster_model.specs.Limits.{is_raster_size}
+use Rattle.raster_model.specs.Limits.{is_tiled_size}
 use Rattle.raster_model.specs.Sums.{Field}
 use Rattle.text_lines.specs.Numbers.{AreLongs, FitsLong, number_text, numbers_line, numbers_text}
 use Rattle.text_lines.specs.Text.{texts_below}
@@ -81,5 +81,5 @@ grid_short width height values long wide high =
     )
 
 -- a raster has pixels, and not too many
-pub some_pixels : (width height : ℕ) → IsTrue (is_raster_size width height) → (1 ≤ width) × (1 ≤ height) × (width * height ≤ 4194304)
+pub some_pixels : (width height : ℕ) → IsTrue (is_tiled_size width height) → (1 ≤ width) × (1 ≤ height) × (width * height ≤ 4194304)
 some_pixels width height sized = (grind (arith, nat_tests), grind (arith, nat_tests), grind (arith, nat_tests))

@@ -9,7 +9,7 @@ use Rattle.std.proofs.lemmas.Int.{fits_signed_from_abs, ints, to_z-of_z}
 use Rattle.std.proofs.lemmas.List.{length-append}
 use Rattle.insar_ports.specs.Lines.{IsInLine}
 use mir.Syntax.{w16, w32, w64}
-use Rattle.raster_model.specs.Limits.{is_raster_size, IsSlope, IsSteepness}
+use Rattle.raster_model.specs.Limits.{is_tiled_size, IsSlope, IsSteepness}
 use Rattle.raster_model.specs.declared.weights.RuleKind.{RuleKind}
 use Rattle.raster_model.specs.declared.weights.RuleKind.TheVariants.{Least}
 use Rattle.text_lines.specs.Numbers.{FitsLong, number_text}
@@ -78,7 +78,7 @@ rule_fits Least = record { inside = word_in_line (rule_line Least) refl; short =
 rule_fits r = record { inside = word_in_line (rule_line r) refl; short = omega arith }
 
 -- a size within the limits is of small numbers
-pub size_parts : (w h : ℕ) → IsTrue (is_raster_size w h) → (w ≤ 4096) × (h ≤ 4096)
+pub size_parts : (w h : ℕ) → IsTrue (is_tiled_size w h) → (w ≤ 4096) × (h ≤ 4096)
 size_parts w h z = (grind (arith, nat_tests), grind (arith, nat_tests))
 
 pub size_words : (s : ℕ × ℕ) → IsRasterSize s → AreWords s

@@ -3,7 +3,7 @@ use Rattle.std.proofs.Common.{List, length, IsTrue, rules, inl, ◌≡◌, ℕ, 
 use Rattle.std.specs.Prelude.{IfErr, IfOk}
 use Rattle.std.proofs.lemmas.Int.{ints}
 use Rattle.std.proofs.lemmas.List.Elements.{All-from_recursion}
-use Rattle.raster_model.specs.Limits.{is_raster_size, IsSlope, IsSteepness}
+use Rattle.raster_model.specs.Limits.{is_tiled_size, IsSlope, IsSteepness}
 use Rattle.raster_model.specs.declared.weights.RuleKind.TheVariants.{Least}
 use Rattle.text_lines.specs.declared.fault.LineFault.{LineFault}
 use Rattle.text_lines.specs.LineWords.{TakesLines}
@@ -45,7 +45,7 @@ grid_reads width height (Ok g) a s f t e = reads_ok (record { advance = a; taken
 grid_reads width height (Err y) a s f t e = record { advance = a; read = tt; refused = e }
 
 -- a grid of a size within the limits
-module _ (width height : ℕ) (z : IsTrue (is_raster_size width height)) where
+module _ (width height : ℕ) (z : IsTrue (is_tiled_size width height)) where
   grid_is : (t : List ℕ) → IsGridTextOf width height t → IsGridText t
   grid_is t a = (record { width = width; height = height; values = a.0 }, (record { sized = z; fits = a.1.0 }, a.1.1))
 

@@ -7,7 +7,7 @@ use Rattle.std.proofs.lemmas.Bool.{cases_Bool, cases_lt, false≢true}
 use Rattle.std.proofs.lemmas.Fmt.{decimal_is_IsNumeral_wide, signed_decimal_injective}
 use Rattle.std.proofs.lemmas.Int.{ints}
 use Rattle.std.proofs.lemmas.List.{append_cancel_left, take_at, take-append-drop}
-use Rattle.raster_model.specs.Limits.{is_raster_size, IsSlope, IsSteepness}
+use Rattle.raster_model.specs.Limits.{is_tiled_size, IsSlope, IsSteepness}
 use Rattle.raster_model.specs.declared.weights.RuleKind.{RuleKind}
 use Rattle.raster_model.specs.declared.weights.RuleKind.TheVariants.{Least, Mean, Product}
 use Rattle.text_lines.specs.Numbers.{BeginsField, FitsLong, number_text}
@@ -116,7 +116,7 @@ pub words_told : (word : List ℕ) → Tells AreWords (behind word pair_text)
 words_told word = behind_told AreWords pair_text word (pair_told IsWord word_wide word_told)
 
 pub size_told : Tells IsRasterSize size_line
-size_told = narrow_told AreWords IsRasterSize size_line (words_unique (codes "size")) size_words (λ s _. test (is_raster_size s.0 s.1)) (words_told (codes "size"))
+size_told = narrow_told AreWords IsRasterSize size_line (words_unique (codes "size")) size_words (λ s _. test (is_tiled_size s.0 s.1)) (words_told (codes "size"))
   where
     test : (b : Bool) → Told (IsTrue b)
     test b = elim (cases_Bool b) [ inl holds ↦ inl holds | inr fails ↦ inr (λ holds. false≢true (sym fails ∙ holds)) ]

@@ -5,7 +5,7 @@ use Rattle.insar_ports.specs.Bytes.{HasMore, HasRisen}
 use Rattle.insar_ports.specs.Calls.{Call, Takes}
 use Rattle.insar_ports.specs.Lines.{IsInLine}
 use Rattle.text_lines.specs.declared.fault.LineFault.{LineFault}
-use Rattle.raster_model.specs.Limits.{is_raster_size, IsSlope, IsSteepness}
+use Rattle.raster_model.specs.Limits.{is_tiled_size, IsSlope, IsSteepness}
 use Rattle.raster_model.specs.Sums.{Field}
 use Rattle.grid_writer.specs.declared.values.Grid.{Grid}
 use Rattle.grid_writer.specs.Grids.{value_at}
@@ -19,7 +19,7 @@ IsListParsedAs MayStand text bytes result = MatchOption result ((numbers : List 
 
 -- which values lines may have: a size within the limits, a ramp
 abbrev pub IsRasterSize : ℕ × ℕ → Type 0
-IsRasterSize size = IsTrue (is_raster_size size.0 size.1)
+IsRasterSize size = IsTrue (is_tiled_size size.0 size.1)
 
 abbrev pub IsRamp : ℤ × ℤ → Type 0
 IsRamp ramp = IsSlope ramp.0 × IsSlope ramp.1

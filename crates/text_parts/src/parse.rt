@@ -25,7 +25,7 @@ pub(crate) fn size_of(line: &[u8]) -> Option<(u32, u32)>
     ensures { IsParsedAs IsRasterSize size_line line.now result }
 {
     let (width, height) = pair_behind(line, SIZE)?;
-    if raster_model::is_raster_size(width, height) {
+    if raster_model::is_tiled_size(width, height) {
         Some((width, height))
     } else {
         None

@@ -3,7 +3,7 @@ ghost use Rattle.grid_writer.specs.Grids.{AreLong};
 ghost use Rattle.insar_ports.specs.Calls.{Moves, Takes, call_of};
 ghost use Rattle.insar_ports.specs.Feeding.{handed_of, left_of, limit_of, source_name};
 ghost use Rattle.insar_ports.specs.Lines.{IsInLine};
-ghost use Rattle.raster_model.specs.Limits.{IsSteepness, is_raster_size};
+ghost use Rattle.raster_model.specs.Limits.{IsSteepness, is_tiled_size};
 ghost use Rattle.std.specs.Prelude.{◌≡◌, [], All, IfErr, IfOk, IsTrue, OnOk};
 ghost use Rattle.text_lines.specs.LineWords.{kept_line, lines_read};
 ghost use Rattle.text_lines.specs.Numbers.{AreLongs, numbers_text};
@@ -118,7 +118,7 @@ pub fn read_grid_part<S: Source>(
     width: u32,
     height: u32,
 ) -> Result<Grid, LineFault>
-    requires sized { IsTrue (is_raster_size width height) }
+    requires sized { IsTrue (is_tiled_size width height) }
     ensures read { ReadsPart values_in (AreLong width height) (grid_text width height) (place_of S.left S.faults feed.old lines.old) (place_of S.left S.faults feed.new lines.new) result }
     ensures size { IfOk result (λ grid. (grid.width ≡ width) × (grid.height ≡ height)) }
 {

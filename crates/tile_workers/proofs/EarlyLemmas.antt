@@ -90,7 +90,7 @@ found_regions g m (Plain regions) are = are
 pub regions_now : (early : EarlyRegions) (g : Gathered) → AreOfOneMask early g → length early.present.mask.unmasked ≡ early.present.mask.width * early.present.mask.height → length g.mask.unmasked ≡ g.mask.width * g.mask.height → AreFoundOf (arc_value g.session).scene.tiling g.mask early.found
 regions_now early g is count many =
     let s = (arc_value g.session).scene in
-    subst (λ (m : MaskView). AreFoundOf s.tiling m early.found) (same_masks early.present.mask g.mask s.phase.width s.phase.height is.clear (omega (arith, s.phase.wide)) is.before is.now count many) is.regions
+    subst (λ (m : MaskView). AreFoundOf s.tiling m early.found) (same_masks early.present.mask g.mask s.phase.width s.phase.height is.clear (omega (arith, s.wide)) is.before is.now count many) is.regions
 
 -- what is made of what is gathered, over regions of its mask and certified, is a surface of it
 pub surface_made : {E : Type 0} (g : Gathered) (result : Result Snapshot E) (v : RegionsView) (seams : SeamResult) → AreRegionsOf (arc_value g.session).scene.tiling g.mask v → seams.revision ≡ g.revision → IfOk result (λ made. parts_of made ≡ parts_from (arc_value g.session) g.mask v g.tiles seams) → IfOk result (λ made. IsPartsVerdict (parts_of made) Good) → IfOk result (λ made. IsSurfaceOfGathered g (parts_of made))

@@ -7,7 +7,7 @@ use Rattle.std.proofs.Math.Nat.{mul-add-mod_self_left}
 use Rattle.std.proofs.lemmas.Bool.{cases_lt}
 use Rattle.std.proofs.lemmas.List.{get_or_append_left, get_or_past, length-append}
 use Rattle.std.proofs.lemmas.Nat.{div-mul-add, mod-mul-add, mul-add-lt, div-add-mod', mod_below, div_below}
-use Rattle.raster_model.specs.Limits.{is_raster_size}
+use Rattle.raster_model.specs.Limits.{is_tiled_size}
 use Rattle.trial_maker.specs.Trials.{next, state, phase_of, weight_of, is_open, state_at}
 use Rattle.trial_maker.specs.Drawn.{AreListed, phase_number}
 use Rattle.sums_and_lists.specs.Sums.{one_if}
@@ -63,15 +63,15 @@ pub record IsSize (w h : ℕ) : Type 0 where
   pub high : (1 ≤ h) × (h ≤ 4096)
   pub few : w * h ≤ 4194304
 
-pub is_size : (w h : ℕ) → IsTrue (is_raster_size w h) → IsSize w h
+pub is_size : (w h : ℕ) → IsTrue (is_tiled_size w h) → IsSize w h
 is_size w h t = record { wide = search rules; high = search rules; few = search rules }
 
-pub column_below : (w h k : ℕ) → IsTrue (is_raster_size w h) → k % w < 4096
+pub column_below : (w h k : ℕ) → IsTrue (is_tiled_size w h) → k % w < 4096
 column_below w h k t =
     let s = is_size w h t in
     omega (arith, s.wide.0, s.wide.1, mod_below k w (omega (arith, s.wide.0)))
 
-pub row_below : (w h k : ℕ) → IsTrue (is_raster_size w h) → k < w * h → k / w < 4096
+pub row_below : (w h k : ℕ) → IsTrue (is_tiled_size w h) → k < w * h → k / w < 4096
 row_below w h k t l =
     let s = is_size w h t in
     let m : k < h * w = grind arith in

@@ -1,4 +1,4 @@
-ghost use Rattle.raster_model.specs.Limits.{max_side};
+ghost use Rattle.raster_model.specs.Limits.{max_tiled_side};
 ghost use Rattle.sums_and_lists.specs.Sums.{one_if};
 ghost use Rattle.std.specs.Prelude.{◌≡◌, ◌<◌, ◌≤◌};
 ghost use Rattle.trial_maker.specs.Trials.{is_open, next as next_of, phase_of as phase_is, weight_of as weight_is};
@@ -18,8 +18,8 @@ pub fn next(state: u64) -> u64
 
 /// The phase of a pixel by its number, in units of 1/65536 cycle: two slopes and a noise of up to 5/8 cycle.
 pub fn phase_of(state: u64, x: u32, y: u32) -> u16
-    requires across { x < max_side }
-    requires along { y < max_side }
+    requires across { x < max_tiled_side }
+    requires along { y < max_tiled_side }
     ensures { result ≡ phase_is state x y }
 {
     let noise = (state >> 48) as u32 * 5 / 8;

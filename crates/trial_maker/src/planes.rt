@@ -1,4 +1,4 @@
-ghost use Rattle.raster_model.specs.Limits.{is_raster_size};
+ghost use Rattle.raster_model.specs.Limits.{is_tiled_size};
 ghost use Rattle.std.specs.Prelude.{◌≡◌, IfOk, IsTrue};
 ghost use Rattle.trial_maker.specs.Drawn.{AreDrawnPlanes};
 
@@ -19,7 +19,7 @@ pub struct Planes {
 
 /// The planes that a seed gives.
 pub fn draw_planes(alloc: Global, seed: u64, width: u32, height: u32) -> Result<Planes, AllocError>
-    requires { IsTrue (is_raster_size width height) }
+    requires { IsTrue (is_tiled_size width height) }
     ensures { IfOk result (λ planes. AreDrawnPlanes seed width height planes.phase planes.weights planes.mask) }
 {
     let Samples {

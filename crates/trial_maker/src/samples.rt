@@ -1,5 +1,5 @@
 ghost use Rattle.sums_and_lists.specs.Sums.{one_if};
-ghost use Rattle.raster_model.specs.Limits.{is_raster_size, max_side};
+ghost use Rattle.raster_model.specs.Limits.{is_tiled_size, max_tiled_side};
 ghost use Rattle.std.specs.Prelude.{◌≡◌, ◌*◌, ◌<◌, ◌++◌, ◌∷◌, [], IfOk, IsTrue, OnOk};
 ghost use Rattle.trial_maker.specs.Drawn.{AreDrawn, HaveRoom};
 ghost use Rattle.trial_maker.specs.Trials.{is_open, phase_of as phase_is, weight_of as weight_is};
@@ -20,7 +20,7 @@ pub struct Samples {
 
 /// The samples that a seed gives to the pixels of a raster.
 pub fn draw(alloc: Global, seed: u64, width: u32, height: u32) -> Result<Samples, AllocError>
-    requires { IsTrue (is_raster_size width height) }
+    requires { IsTrue (is_tiled_size width height) }
     ensures { IfOk result (λ samples. AreDrawn seed width (width * height) samples.phase.items samples.weights.items samples.mask.items) }
 {
     let mut samples = room_for(alloc, width as usize * height as usize)?;
@@ -45,8 +45,8 @@ fn room_for(alloc: Global, pixels: usize) -> Result<Samples, AllocError>
 
 /// Appends the samples of a pixel.
 fn append(samples: &mut Samples, state: u64, x: u32, y: u32) -> Result<(), AllocError>
-    requires across { x < max_side }
-    requires along { y < max_side }
+    requires across { x < max_tiled_side }
+    requires along { y < max_tiled_side }
     ensures phase { OnOk result (samples.new.phase.items ≡ samples.old.phase.items ++ phase_is state x y ∷ []) }
     ensures weights { OnOk result (samples.new.weights.items ≡ samples.old.weights.items ++ weight_is state ∷ []) }
     ensures mask { OnOk result (samples.new.mask.items ≡ samples.old.mask.items ++ one_if (is_open state) ∷ []) }

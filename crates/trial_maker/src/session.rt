@@ -1,5 +1,5 @@
 ghost use Rattle.edge_weights.specs.Sessions.{HasSettings};
-ghost use Rattle.raster_model.specs.Limits.{is_raster_size as fits_limits, IsTileSide};
+ghost use Rattle.raster_model.specs.Limits.{is_tiled_size as fits_limits, IsTileSide};
 ghost use Rattle.std.specs.Prelude.{◌≡◌, ◌≤◌, Err, IfErr, IfOk, IsTrue, false};
 ghost use Rattle.trial_maker.specs.Trials.{AreTrialScripts, IsTrial, IsTrialOf};
 ghost use Rattle.trial_maker.specs.declared.fault.TrialFault.TheVariants as faults;
@@ -7,7 +7,7 @@ ghost use Rattle.trial_maker.specs.declared.fault.TrialFault.TheVariants as faul
 use crate::fault::TrialFault;
 use crate::planes::{Planes, draw_planes};
 use edge_weights::{SceneSettings, SessionParts, weigh};
-use raster_model::{Command, Mask, RuleKind, Script, Session, Tiling, is_raster_size};
+use raster_model::{Command, Mask, RuleKind, Script, Session, Tiling, is_tiled_size};
 use std::alloc::{AllocError, Global};
 
 /// The test session that a seed gives: a raster of this width and height in pixels, tiles of this side, edges by
@@ -41,7 +41,7 @@ pub fn make_session_on(
     ensures size { result ≡ Err faults.Size → fits_limits width height ≡ false }
     ensures fits { fits_limits width height ≡ false → result ≡ Err faults.Size }
 {
-    if !is_raster_size(width, height) {
+    if !is_tiled_size(width, height) {
         return Err(TrialFault::Size);
     }
     make_fitting(

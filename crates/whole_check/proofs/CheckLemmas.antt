@@ -13,5 +13,5 @@ pub faces_counted : (s : Scene) (n width height : ℕ) → n ≡ (width - 1) * (
 faces_counted s n width height e wide high =
     let r = raster_of s in
     let v : Window = record { x0 = 0; y0 = 0; x1 = s.phase.width - 1; y1 = s.phase.height - 1 } in
-    counted (whole_of r) 0 v (whole_window r v refl refl (omega (arith, s.phase.wide)) (omega (arith, s.phase.high))) n
+    counted (whole_of r) 0 v (whole_window r v refl refl (omega (arith, s.wide)) (omega (arith, s.high))) n
     (e ∙ ap₂ (λ (a b : ℕ). a * b) (omega (arith, wide)) (omega (arith, high)))

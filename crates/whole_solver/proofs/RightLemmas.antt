@@ -18,15 +18,15 @@ use Rattle.whole_solver.proofs.WholeLemmas.{place_is}
 module _ (s : Scene) (cycles : List ℤ) where
   -- two ways to say which number of a list is a pixel's
   same_cycles : (x y : ℕ) → cycles_at (raster_window s) cycles x y ≡ whole_cycles s.phase.width cycles x y
-  same_cycles x y = ap (λ (k : ℕ). slice_index_or cycles k (pos 0)) (place_is y s.phase.width x s.phase.wide.0)
+  same_cycles x y = ap (λ (k : ℕ). slice_index_or cycles k (pos 0)) (place_is y s.phase.width x s.wide.0)
 
   -- each place of the list is a pixel's
   pub all_within : length cycles ≡ s.phase.width * s.phase.height → LieWithin (raster_window s) (cycles_at (raster_window s) cycles) (2 ^ 44) → (k : ℕ) → unsigned_abs (slice_index_or cycles k (pos 0)) ≤ 2 ^ 44
   all_within count within k = elim (under_or_past k (s.phase.width * s.phase.height)) [
     | inl l ↦ (
         let w = s.phase.width in
-        let wide = s.phase.wide in
-        let high = s.phase.high in
+        let wide = s.wide in
+        let high = s.high in
         let d = parts k w s.phase.height wide.0 l in
         let at = within (k % w) (k / w) (omega arith, omega (arith, d.0, wide), omega arith, omega (arith, d.1, high)) in
         subst (λ (z : ℤ). unsigned_abs z ≤ 2 ^ 44) (same_cycles (k % w) (k / w) ∙ ap (λ (j : ℕ). slice_index_or cycles j (pos 0)) d.2) at)

@@ -18,8 +18,8 @@ use Rattle.sums_and_lists.proofs.Orders.{below_or_last}
 
 pub window_inside : (s : Scene) → IsWindowIn s.phase.width s.phase.height (raster_window s)
 window_inside s =
-    let wide = s.phase.wide in
-    let high = s.phase.high in
+    let wide = s.wide in
+    let high = s.high in
     record { across = (omega arith, omega (arith, wide)); along = (omega arith, omega (arith, high)) }
 
 -- the whole raster's one tile has exactly the window's pixels
@@ -34,14 +34,14 @@ whole_tile s =
 
 pub pixels_are : (s : Scene) → width_of (raster_window s) * height_of (raster_window s) ≡ s.phase.width * s.phase.height
 pixels_are s =
-    let wide = s.phase.wide in
-    let high = s.phase.high in
+    let wide = s.wide in
+    let high = s.high in
     ap₂ (λ (w h : ℕ). w * h) (omega (arith, wide)) (omega (arith, high))
 
 pub few_cells_whole : (s : Scene) → cells_of (raster_window s) ≤ 16769025
 few_cells_whole s =
-    let wide = s.phase.wide in
-    let high = s.phase.high in
+    let wide = s.wide in
+    let high = s.high in
     few_cells (raster_window s) (record { across = (omega arith, omega (arith, wide)); along = (omega arith, omega (arith, high)) })
 
 -- the first n pixels in row order are listed
@@ -73,8 +73,8 @@ place_is y w x l =
 pub all_listed : (s : Scene) (mask : Field Bool) (list : List Bool) → AreListed s.phase.width (s.phase.width * s.phase.height) mask list → TellsMask (raster_window s) list mask
 all_listed s mask list h x y i =
     let w = s.phase.width in
-    let wide = s.phase.wide in
-    let high = s.phase.high in
+    let wide = s.wide in
+    let high = s.high in
     let column : x < w = omega (arith, i, wide) in
     let row : y < s.phase.height = omega (arith, i, high) in
     let inside : y * w + x < w * s.phase.height = place_within w s.phase.height y x row column in

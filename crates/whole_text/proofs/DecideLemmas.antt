@@ -2,7 +2,7 @@
 use Rattle.std.proofs.Common.{◌≡◌, ℕ, ◌-◌, IsTrue, List, ◌++◌, length, inl, sym, subst}
 use Rattle.std.specs.Prelude.{codes}
 use Rattle.std.proofs.lemmas.Bool.{cases_eq}
-use Rattle.raster_model.specs.Limits.{is_raster_size}
+use Rattle.raster_model.specs.Limits.{is_tiled_size}
 use Rattle.text_lines.specs.Numbers.{AreLongs, numbers_text}
 use Rattle.text_lines.specs.Parsing.{IsWide}
 use Rattle.text_lines.specs.Text.{field_text}
@@ -47,7 +47,7 @@ cells_decided width height t w =
     let kind = row_kind across in
     decided_same (TextOf (AreRows across rows) (lines_of_rows rows)) (TextOf (AreCellFaces width height) (face_rows width height)) (cells_same width height) t (lines_decided (IsFacesRow across) (λ y. face_row) rows (inside across rows) kind.some (λ y _. row_told across) t w)
 
-tail_decided : (width height : ℕ) → IsTrue (is_raster_size width height) → IsDecided (TextOf (IsTail width height) (tail_text width height))
+tail_decided : (width height : ℕ) → IsTrue (is_tiled_size width height) → IsDecided (TextOf (IsTail width height) (tail_text width height))
 tail_decided width height z =
     turn_decided (grid_part width height z) (end_part width height) (sized_decided width height z) (turn_decided (cells_part width height) (line_part end_kind) (cells_decided width height) (kind_decided end_kind (known_told (codes "end") tt)))
 

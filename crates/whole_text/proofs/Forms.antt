@@ -3,7 +3,7 @@ use Rattle.std.proofs.Common.{◌≡◌, ℕ, ◌-◌, ◌+◌, ◌*◌, ◌≤�
 use Rattle.std.specs.Prelude.{codes}
 use Rattle.std.proofs.lemmas.List.{append_cancel_left, length-append}
 use Rattle.std.proofs.lemmas.List.Elements.{All-from_recursion}
-use Rattle.raster_model.specs.Limits.{IsSteepness, is_raster_size}
+use Rattle.raster_model.specs.Limits.{IsSteepness, is_tiled_size}
 use Rattle.raster_model.specs.Sums.{Field}
 use Rattle.insar_ports.specs.Lines.{IsInLine}
 use Rattle.text_lines.specs.Forms.{Form}
@@ -148,7 +148,7 @@ tail_text width height = in_turn (grid_text width height) (in_turn (face_rows wi
 pub end_part : (width height : ℕ) → IsPart (both (AreCellFaces width height) (IsAnyRule {A = Unit {0}})) (in_turn (face_rows width height) (ended_line (known_line (codes "end"))))
 end_part width height = turn_part (cells_part width height) (line_part end_kind)
 
-pub tail_part : (width height : ℕ) → IsTrue (is_raster_size width height) → IsPart (IsTail width height) (tail_text width height)
+pub tail_part : (width height : ℕ) → IsTrue (is_tiled_size width height) → IsPart (IsTail width height) (tail_text width height)
 tail_part width height z = turn_part (grid_part width height z) (end_part width height)
 
 -- ---- the whole

@@ -14,7 +14,7 @@ ghost use Rattle.whole_text.specs.Text.{AreCellFaces, IsWhole, IsWholeText, cost
 use crate::parse::{cost_of, faces_of};
 use crate::whole::{Whole, cell_rows_of};
 use insar_ports::{Feed, Source};
-use raster_model::{MAX_SIDE, RuleKind, Terms};
+use raster_model::{MAX_TILED_SIDE, RuleKind, Terms};
 use std::alloc::Global;
 use text_lines::{LineFault, Lines};
 use text_parts::{
@@ -76,7 +76,7 @@ fn read_row<S: Source>(
     lines: &mut Lines,
     across: usize,
 ) -> Result<Vec<i64>, LineFault>
-    requires { across ≤ (MAX_SIDE - 1) }
+    requires { across ≤ (MAX_TILED_SIDE - 1) }
     ensures { ReadsPart list_in (IsFacesRow across) (ended_line face_row) (place_of S.left S.faults feed.old lines.old) (place_of S.left S.faults feed.new lines.new) result }
 {
     read_line(feed, lines, WORD_BYTES + FACE_BYTES * across)?;
@@ -91,7 +91,7 @@ fn read_rows<S: Source>(
     across: usize,
     rows: u32,
 ) -> Result<Vec<i64>, LineFault>
-    requires { (across ≤ (MAX_SIDE - 1)) × (rows ≤ (MAX_SIDE - 1)) }
+    requires { (across ≤ (MAX_TILED_SIDE - 1)) × (rows ≤ (MAX_TILED_SIDE - 1)) }
     ensures read { ReadsPart (rows_in across) (AreRows across rows) (lines_of_rows rows) (place_of S.left S.faults feed.old lines.old) (place_of S.left S.faults feed.new lines.new) result }
     ensures count { IfOk result (λ faces. vec_len faces ≡ rows * across) }
     ensures longs { IfOk result (λ faces. AreLongs faces.items) }
@@ -112,7 +112,7 @@ fn read_faces<S: Source>(
     width: u32,
     height: u32,
 ) -> Result<Vec<i64>, LineFault>
-    requires { (1 ≤ width) × ((width ≤ MAX_SIDE) × ((1 ≤ height) × (height ≤ MAX_SIDE))) }
+    requires { (1 ≤ width) × ((width ≤ MAX_TILED_SIDE) × ((1 ≤ height) × (height ≤ MAX_TILED_SIDE))) }
     ensures { ReadsPart list_in (AreCellFaces width height) (face_rows width height) (place_of S.left S.faults feed.old lines.old) (place_of S.left S.faults feed.new lines.new) result }
 {
     let rows = cell_rows_of(width, height);

@@ -1,6 +1,6 @@
 ghost use Rattle.grid_writer.specs.Values.{no_data};
 ghost use Rattle.raster_model.specs.Heights.{KnowsOpen};
-ghost use Rattle.raster_model.specs.Limits.{is_raster_size};
+ghost use Rattle.raster_model.specs.Limits.{is_tiled_size};
 ghost use Rattle.raster_model.specs.Masks.{open_at};
 ghost use Rattle.raster_model.specs.Raster.{lifted};
 ghost use Rattle.raster_model.specs.Scene.{raster_of};
@@ -50,7 +50,7 @@ impl<H: Heights> Rows for SurfaceRows<'_, H> {
 
     fn width(&self) -> u32
         ensures width { result ≡ (grid_above self.now.scene.now (open_at self.now.mask.now) (H.cycles_at self.now.heights.now)).width }
-        ensures sized { IsTrue (is_raster_size (grid_above self.now.scene.now (open_at self.now.mask.now) (H.cycles_at self.now.heights.now)).width (grid_above self.now.scene.now (open_at self.now.mask.now) (H.cycles_at self.now.heights.now)).height) }
+        ensures sized { IsTrue (is_tiled_size (grid_above self.now.scene.now (open_at self.now.mask.now) (H.cycles_at self.now.heights.now)).width (grid_above self.now.scene.now (open_at self.now.mask.now) (H.cycles_at self.now.heights.now)).height) }
     {
         self.scene.phase.width
     }

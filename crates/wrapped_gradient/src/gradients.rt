@@ -1,4 +1,4 @@
-ghost use Rattle.raster_model.specs.Limits.{IsSlope, max_side};
+ghost use Rattle.raster_model.specs.Limits.{IsSlope, max_tiled_side};
 ghost use Rattle.raster_model.specs.Phase.{wrapped_by};
 ghost use Rattle.raster_model.specs.Scene.{raster_of};
 ghost use Rattle.raster_model.specs.Tiles.{IsWindowIn, width_of, height_of};
@@ -21,7 +21,7 @@ pub struct Gradients {
 }
 
 impl Model for Gradients {
-    ghost use Rattle.raster_model.specs.Limits.{max_side};
+    ghost use Rattle.raster_model.specs.Limits.{max_tiled_side};
     ghost use Rattle.std.specs.Prelude.{◌≡◌, ◌*◌, ◌<◌, ◌≤◌};
     ghost use Rattle.wrapped_gradient.specs.GradientsView.{GradientsView};
     ghost use Rattle.wrapped_gradient.specs.Windows.{HaveShapeOf};
@@ -30,7 +30,7 @@ impl Model for Gradients {
 
     ghost view = { λ g. record { window = g.window; terms = g.terms; right = g.right.items; down = g.down.items } };
 
-    ghost invariant = { λ g. (g.window.x0 ≤ g.window.x1) × (g.window.x1 < max_side) × (g.window.y0 ≤ g.window.y1) × (g.window.y1 < max_side) × HaveShapeOf g.window g.right.items g.down.items };
+    ghost invariant = { λ g. (g.window.x0 ≤ g.window.x1) × (g.window.x1 < max_tiled_side) × (g.window.y0 ≤ g.window.y1) × (g.window.y1 < max_tiled_side) × HaveShapeOf g.window g.right.items g.down.items };
 }
 
 impl Gradients {
@@ -77,8 +77,8 @@ impl Gradients {
     /// The window that they were made for.
     pub fn window(&self) -> Window
         ensures value { result ≡ self.now.window }
-        ensures across { (result.x0 ≤ result.x1) × (result.x1 < max_side) }
-        ensures along { (result.y0 ≤ result.y1) × (result.y1 < max_side) }
+        ensures across { (result.x0 ≤ result.x1) × (result.x1 < max_tiled_side) }
+        ensures along { (result.y0 ≤ result.y1) × (result.y1 < max_tiled_side) }
     {
         self.window
     }

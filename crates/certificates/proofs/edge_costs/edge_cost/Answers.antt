@@ -7,7 +7,7 @@ use Rattle.certificates.proofs.edge_costs.edge_cost.Goals as goal
 
 pub are_ends_open-requires : goal.are_ends_open-requires
 are_ends_open-requires g c = record {
-  sides = rw (c.requires.same_size.0, c.requires.same_size.1) (c.args.scene.now.phase.wide.1, c.args.scene.now.phase.high.1);
+  sides = rw (c.requires.same_size.0, c.requires.same_size.1) (c.args.scene.now.wide.1, c.args.scene.now.high.1);
   is_edge = rw (c.requires.same_size.0, c.requires.same_size.1) c.requires.is_edge;
   unmasked = c.requires.unmasked;
 }

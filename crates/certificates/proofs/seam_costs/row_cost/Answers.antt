@@ -43,5 +43,5 @@ returns-clause-value g c =
 
 pub returns-clause-small : goal.returns-clause-small
 returns-clause-small g c =
-    let e : c.loop-x.x ≤ 4096 = omega (arith, c.loop-x.invariant.within, c.args.scene.now.phase.wide) in
+    let e : c.loop-x.x ≤ 4096 = omega (arith, c.loop-x.invariant.within, c.args.scene.now.wide) in
     omega (arith, e, c.loop-x.invariant.small)

@@ -12,7 +12,7 @@ use Rattle.certificates.proofs.tiles.check_whole.Goals as goal
 pub invariant_of-tile : goal.invariant_of-tile
 invariant_of-tile g c =
     let s = c.args.scene.now in
-    record { same_size = c.requires.same_size; pixels = whole_window (raster_of s) _ refl refl (omega (arith, s.phase.wide)) (omega (arith, s.phase.high)) }
+    record { same_size = c.requires.same_size; pixels = whole_window (raster_of s) _ refl refl (omega (arith, s.wide)) (omega (arith, s.high)) }
 
 pub check-requires : goal.check-requires
 check-requires g c = record { known = λ x y l m e o. c.requires.known x y l m o }

@@ -13,10 +13,10 @@ loop-x-init c =
     }
 
 pub plus-costs-requires-clause-tiles : goal.plus-costs-requires-clause-tiles
-plus-costs-requires-clause-tiles c = omega (arith, c.loop-x.invariant.small, c.costs_of_pixel.ensures.small, c.requires.piece, c.args.block.now.surface.scene.now.phase.wide)
+plus-costs-requires-clause-tiles c = omega (arith, c.loop-x.invariant.small, c.costs_of_pixel.ensures.small, c.requires.piece, c.args.block.now.surface.scene.now.wide)
 
 pub plus-costs-requires-clause-seams : goal.plus-costs-requires-clause-seams
-plus-costs-requires-clause-seams c = omega (arith, c.loop-x.invariant.small, c.costs_of_pixel.ensures.small, c.requires.piece, c.args.block.now.surface.scene.now.phase.wide)
+plus-costs-requires-clause-seams c = omega (arith, c.loop-x.invariant.small, c.costs_of_pixel.ensures.small, c.requires.piece, c.args.block.now.surface.scene.now.wide)
 
 pub loop-x-preserved : goal.loop-x-preserved
 loop-x-preserved c =

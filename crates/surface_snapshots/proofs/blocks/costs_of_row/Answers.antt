@@ -18,10 +18,10 @@ pub costs_of_piece-requires-clause-piece : goal.costs_of_piece-requires-clause-p
 costs_of_piece-requires-clause-piece c = (omega (arith, c.min-end.ensures, c.loop-x-test.true), omega (arith, c.min-end.ensures), omega (arith, c.min-end.ensures))
 
 pub plus-costs-requires-clause-tiles : goal.plus-costs-requires-clause-tiles
-plus-costs-requires-clause-tiles c = omega (arith, c.loop-x.invariant.small, c.costs_of_piece.ensures.small, c.min-end.ensures, c.loop-x-test.true, c.args.block.now.surface.scene.now.phase.wide)
+plus-costs-requires-clause-tiles c = omega (arith, c.loop-x.invariant.small, c.costs_of_piece.ensures.small, c.min-end.ensures, c.loop-x-test.true, c.args.block.now.surface.scene.now.wide)
 
 pub plus-costs-requires-clause-seams : goal.plus-costs-requires-clause-seams
-plus-costs-requires-clause-seams c = omega (arith, c.loop-x.invariant.small, c.costs_of_piece.ensures.small, c.min-end.ensures, c.loop-x-test.true, c.args.block.now.surface.scene.now.phase.wide)
+plus-costs-requires-clause-seams c = omega (arith, c.loop-x.invariant.small, c.costs_of_piece.ensures.small, c.min-end.ensures, c.loop-x-test.true, c.args.block.now.surface.scene.now.wide)
 
 pub loop-x-preserved : goal.loop-x-preserved
 loop-x-preserved c =
@@ -54,5 +54,5 @@ returns-clause-seams c =
 
 pub returns-clause-small : goal.returns-clause-small
 returns-clause-small c =
-    let e : c.loop-x.x ≤ 4096 = omega (arith, c.loop-x.invariant.within, c.args.block.now.surface.scene.now.phase.wide) in
+    let e : c.loop-x.x ≤ 4096 = omega (arith, c.loop-x.invariant.within, c.args.block.now.surface.scene.now.wide) in
     (omega (arith, e, c.loop-x.invariant.small), omega (arith, e, c.loop-x.invariant.small))

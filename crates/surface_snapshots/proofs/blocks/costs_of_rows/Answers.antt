@@ -11,10 +11,10 @@ loop-y-init c =
     no_rows (raster_under s) (open_under s) (lifted (raster_under s) (cycles_under s)) c.args.first
 
 pub plus-costs-requires-clause-tiles : goal.plus-costs-requires-clause-tiles
-plus-costs-requires-clause-tiles c = omega (arith, c.loop-y.invariant.2, c.costs_of_row.ensures.small, c.requires.rows, c.loop-y-test.true, c.args.block.now.surface.scene.now.phase.high)
+plus-costs-requires-clause-tiles c = omega (arith, c.loop-y.invariant.2, c.costs_of_row.ensures.small, c.requires.rows, c.loop-y-test.true, c.args.block.now.surface.scene.now.high)
 
 pub plus-costs-requires-clause-seams : goal.plus-costs-requires-clause-seams
-plus-costs-requires-clause-seams c = omega (arith, c.loop-y.invariant.2, c.costs_of_row.ensures.small, c.requires.rows, c.loop-y-test.true, c.args.block.now.surface.scene.now.phase.high)
+plus-costs-requires-clause-seams c = omega (arith, c.loop-y.invariant.2, c.costs_of_row.ensures.small, c.requires.rows, c.loop-y-test.true, c.args.block.now.surface.scene.now.high)
 
 pub loop-y-preserved : goal.loop-y-preserved
 loop-y-preserved c =

@@ -26,13 +26,13 @@ pub plus-costs-requires-clause-tiles : goal.plus-costs-requires-clause-tiles
 plus-costs-requires-clause-tiles c =
     let s = c.args.surface.now in
     let i = c.loop-y.invariant in
-    (rows_fit (raster_under s) (open_under s) (lifted (raster_under s) (cycles_under s)) c.args.first c.loop-y.y c.min-next.result c.loop-y.costs c.block_costs.result i.within.0 (omega (arith, c.min-next.ensures, i.within)) i.costs c.block_costs.ensures.costs (omega (arith, c.min-next.ensures, c.requires.rows, s.scene.now.phase.high))).0
+    (rows_fit (raster_under s) (open_under s) (lifted (raster_under s) (cycles_under s)) c.args.first c.loop-y.y c.min-next.result c.loop-y.costs c.block_costs.result i.within.0 (omega (arith, c.min-next.ensures, i.within)) i.costs c.block_costs.ensures.costs (omega (arith, c.min-next.ensures, c.requires.rows, s.scene.now.high))).0
 
 pub plus-costs-requires-clause-seams : goal.plus-costs-requires-clause-seams
 plus-costs-requires-clause-seams c =
     let s = c.args.surface.now in
     let i = c.loop-y.invariant in
-    (rows_fit (raster_under s) (open_under s) (lifted (raster_under s) (cycles_under s)) c.args.first c.loop-y.y c.min-next.result c.loop-y.costs c.block_costs.result i.within.0 (omega (arith, c.min-next.ensures, i.within)) i.costs c.block_costs.ensures.costs (omega (arith, c.min-next.ensures, c.requires.rows, s.scene.now.phase.high))).1
+    (rows_fit (raster_under s) (open_under s) (lifted (raster_under s) (cycles_under s)) c.args.first c.loop-y.y c.min-next.result c.loop-y.costs c.block_costs.result i.within.0 (omega (arith, c.min-next.ensures, i.within)) i.costs c.block_costs.ensures.costs (omega (arith, c.min-next.ensures, c.requires.rows, s.scene.now.high))).1
 
 pub loop-y-preserved : goal.loop-y-preserved
 loop-y-preserved c =

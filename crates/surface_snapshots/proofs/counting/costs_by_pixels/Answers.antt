@@ -33,10 +33,10 @@ costs_at-requires-clause-unmasked g c = λ t.
     open_within c.args.mask.now c.args.y c.args.x0 c.args.end c.loop-x.x (omega arith) (omega arith) (c.requires.unmasked t)
 
 pub plus-costs-requires-clause-tiles : goal.plus-costs-requires-clause-tiles
-plus-costs-requires-clause-tiles g c = omega (arith, c.loop-x.invariant.small, c.costs_at.ensures.small, c.requires.piece, c.args.scene.now.phase.wide)
+plus-costs-requires-clause-tiles g c = omega (arith, c.loop-x.invariant.small, c.costs_at.ensures.small, c.requires.piece, c.args.scene.now.wide)
 
 pub plus-costs-requires-clause-seams : goal.plus-costs-requires-clause-seams
-plus-costs-requires-clause-seams g c = omega (arith, c.loop-x.invariant.small, c.costs_at.ensures.small, c.requires.piece, c.args.scene.now.phase.wide)
+plus-costs-requires-clause-seams g c = omega (arith, c.loop-x.invariant.small, c.costs_at.ensures.small, c.requires.piece, c.args.scene.now.wide)
 
 pub loop-x-preserved : goal.loop-x-preserved
 loop-x-preserved g c =

@@ -25,10 +25,10 @@ pub piece_costs-requires-clause-piece : goal.piece_costs-requires-clause-piece
 piece_costs-requires-clause-piece g c = (omega (arith, c.min-end.ensures, c.loop-x-test.true), omega (arith, c.min-end.ensures))
 
 pub plus-costs-requires-clause-tiles : goal.plus-costs-requires-clause-tiles
-plus-costs-requires-clause-tiles g c = omega (arith, c.loop-x.invariant.small, c.piece_costs.ensures.small, c.min-end.ensures, c.loop-x-test.true, c.args.scene.now.phase.wide)
+plus-costs-requires-clause-tiles g c = omega (arith, c.loop-x.invariant.small, c.piece_costs.ensures.small, c.min-end.ensures, c.loop-x-test.true, c.args.scene.now.wide)
 
 pub plus-costs-requires-clause-seams : goal.plus-costs-requires-clause-seams
-plus-costs-requires-clause-seams g c = omega (arith, c.loop-x.invariant.small, c.piece_costs.ensures.small, c.min-end.ensures, c.loop-x-test.true, c.args.scene.now.phase.wide)
+plus-costs-requires-clause-seams g c = omega (arith, c.loop-x.invariant.small, c.piece_costs.ensures.small, c.min-end.ensures, c.loop-x-test.true, c.args.scene.now.wide)
 
 pub loop-x-preserved : goal.loop-x-preserved
 loop-x-preserved g c =
@@ -70,5 +70,5 @@ returns-clause-seams g c =
 
 pub returns-clause-small : goal.returns-clause-small
 returns-clause-small g c =
-    let e : c.loop-x.x ≤ 4096 = omega (arith, c.loop-x.invariant.within, c.args.scene.now.phase.wide) in
+    let e : c.loop-x.x ≤ 4096 = omega (arith, c.loop-x.invariant.within, c.args.scene.now.wide) in
     (omega (arith, e, c.loop-x.invariant.small), omega (arith, e, c.loop-x.invariant.small))

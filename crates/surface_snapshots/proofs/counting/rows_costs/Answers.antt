@@ -13,10 +13,10 @@ pub row_costs-requires-clause-known : goal.row_costs-requires-clause-known
 row_costs-requires-clause-known g c = λ x y l h from to clear. c.requires.known x y l h (omega (arith, from, c.loop-y.auto)) (omega (arith, to, c.loop-y-test.true)) clear
 
 pub plus-costs-requires-clause-tiles : goal.plus-costs-requires-clause-tiles
-plus-costs-requires-clause-tiles g c = omega (arith, c.loop-y.invariant.2, c.row_costs.ensures.small, c.requires.rows, c.loop-y-test.true, c.args.scene.now.phase.high)
+plus-costs-requires-clause-tiles g c = omega (arith, c.loop-y.invariant.2, c.row_costs.ensures.small, c.requires.rows, c.loop-y-test.true, c.args.scene.now.high)
 
 pub plus-costs-requires-clause-seams : goal.plus-costs-requires-clause-seams
-plus-costs-requires-clause-seams g c = omega (arith, c.loop-y.invariant.2, c.row_costs.ensures.small, c.requires.rows, c.loop-y-test.true, c.args.scene.now.phase.high)
+plus-costs-requires-clause-seams g c = omega (arith, c.loop-y.invariant.2, c.row_costs.ensures.small, c.requires.rows, c.loop-y-test.true, c.args.scene.now.high)
 
 pub loop-y-preserved : goal.loop-y-preserved
 loop-y-preserved g c =

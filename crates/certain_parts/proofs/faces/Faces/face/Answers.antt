@@ -8,7 +8,7 @@ use Rattle.certain_parts.proofs.faces.Faces.face.Goals as goal
 pub bounds-self-y : goal.bounds-self-y
 bounds-self-y c =
     let s = c.args.self.now.scene.now in
-    face_place (raster_of s) c.args.self.now.faces.now s.phase.wide.0 s.phase.high.0 c.args.x c.args.y c.if-x-across.true c.if-y-self.true c.args.self.now.count
+    face_place (raster_of s) c.args.self.now.faces.now s.wide.0 s.high.0 c.args.x c.args.y c.if-x-across.true c.if-y-self.true c.args.self.now.count
 
 pub returns-then-y-self : goal.returns-then-y-self
 returns-then-y-self c =
@@ -17,4 +17,4 @@ returns-then-y-self c =
     let place = c.args.y * (s.phase.width - 1) + c.args.x in
     let fits : FitsSigned w64 (slice_index_or faces place (pos 0)) = search rules in
     to_z-of_z w64 (slice_index_or faces place (pos 0)) fits
-    ∙ face_read (raster_of s) faces s.phase.wide.0 s.phase.high.0 c.args.x c.args.y c.if-x-across.true c.if-y-self.true
+    ∙ face_read (raster_of s) faces s.wide.0 s.high.0 c.args.x c.args.y c.if-x-across.true c.if-y-self.true

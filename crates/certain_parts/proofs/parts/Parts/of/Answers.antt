@@ -24,13 +24,13 @@ invariant_of-result g c =
     let sized : made.sizes.len ≡ count + 1 = made.sizes.ok.0 ∙ measured.sized in
     let full : trees.labels.len ≡ s.phase.width * s.phase.height = trees.labels.ok.0 ∙ is.full in
     let same : length labels ≡ length trees.labels.items = size ∙ trees.labels.ok.0 in (
-      size_fits s.phase.width s.phase.height s.phase.wide s.phase.high s.phase.few,
+      size_fits s.phase.width s.phase.height s.wide s.high s.few,
       full,
       omega (arith, sized),
       omega (arith, sized, is.few, c.in_ok-count.ensures.small),
       omega (arith, sized, measured.placed, made.firsts.ok.0),
       λ n l. rw items (measured.counts n (omega (arith, sized, l))),
-      λ n one l. rw items (first_is faced c.args.limit c.args.least trees.count count trees.labels.items labels made.sizes.items made.firsts.items s.phase.wide.0 s.phase.few is same (rw before at c.in_ok-count.ensures.ranked) (rw before at c.in_ok-count.ensures.other) (rw before at c.in_ok-count.ensures.count) measured n one (omega (arith, sized, l))),
+      λ n one l. rw items (first_is faced c.args.limit c.args.least trees.count count trees.labels.items labels made.sizes.items made.firsts.items s.wide.0 s.few is same (rw before at c.in_ok-count.ensures.ranked) (rw before at c.in_ok-count.ensures.other) (rw before at c.in_ok-count.ensures.count) measured n one (omega (arith, sized, l))),
     )
 
 pub returns : goal.returns
@@ -48,5 +48,5 @@ returns g c =
     let measured : AreMeasures labels (count + 1) made.sizes.items made.firsts.items = rw (c.deref.ensures.value, items) at c.in_ok-measures.ensures in
     let sized : count ≡ made.sizes.len - 1 = omega (arith, made.sizes.ok.0, measured.sized) in
     let same : length labels ≡ length trees.labels.items = size ∙ trees.labels.ok.0 in
-    let parts = parts_are faced c.args.limit c.args.least trees.count count trees.labels.items labels made.sizes.items made.firsts.items s.phase.wide.0 s.phase.few is same (rw before at c.in_ok-count.ensures.ranked) (rw before at c.in_ok-count.ensures.other) (rw before at c.in_ok-count.ensures.count) measured in
+    let parts = parts_are faced c.args.limit c.args.least trees.count count trees.labels.items labels made.sizes.items made.firsts.items s.wide.0 s.few is same (rw before at c.in_ok-count.ensures.ranked) (rw before at c.in_ok-count.ensures.other) (rw before at c.in_ok-count.ensures.count) measured in
     rw items (subst (λ (n : ℕ). ArePartsOf faced c.args.limit c.args.least (record { width = s.phase.width; height = s.phase.height; labels = labels; count = n })) sized parts)

@@ -65,7 +65,7 @@ loop-y-preserved c =
       counted = (rw e at c.loop-x.invariant.counted) ∙ sym (before-row r c.loop-y.y);
       few = omega (arith, c.loop-x.invariant.few);
       so_far = so_far_row k c.args.labels.now c.loop-x.x c.loop-y.y c.loop-x.sums e c.loop-x.invariant.so_far;
-      sizes = λ v. (let m = c.loop-x.invariant.sizes v in omega (arith, m, c.loop-x.invariant.within, k.scene.now.phase.wide));
+      sizes = λ v. (let m = c.loop-x.invariant.sizes v in omega (arith, m, c.loop-x.invariant.within, k.scene.now.wide));
     }
 
 pub returns : goal.returns

@@ -53,13 +53,13 @@ loop-y-preserved c =
     let f = face_at (held_raster k) k.number c.args.faces.now in
     record {
       sum = row_more s.phase.width s.phase.height v.x0 v.x1 v.y0 v.y1 (product_at k c.args.faces.now) (cells_across_fit k f) (cells_along_fit k f) (product_outside k f) c.loop-x.x c.loop-y.y _ (omega arith) (omega arith) c.loop-x.invariant.sum;
-      small = omega (arith, c.loop-x.invariant.small, k.pixels.across, k.scene.now.phase.wide);
+      small = omega (arith, c.loop-x.invariant.small, k.pixels.across, k.scene.now.wide);
     }
 
 pub returns-clause-small : goal.returns-clause-small
 returns-clause-small c =
     let k = c.args.self.now in
-    omega (arith, c.loop-y.invariant.small, k.pixels.along, k.scene.now.phase.high)
+    omega (arith, c.loop-y.invariant.small, k.pixels.along, k.scene.now.high)
 
 pub returns-clause-value : goal.returns-clause-value
 unfolding face_total

@@ -21,7 +21,7 @@ loop-y-init c =
 pub overflow_add-over : goal.overflow_add-over
 overflow_add-over c =
     let k = c.args.self.now in
-    let e : c.loop-y.y ≤ 4096 = omega (arith, c.loop-y-test.true, k.pixels.along, k.scene.now.phase.high) in
+    let e : c.loop-y.y ≤ 4096 = omega (arith, c.loop-y-test.true, k.pixels.along, k.scene.now.high) in
     record { fits = omega (arith, e, c.loop-y.invariant.small, c.row_over-over.ensures.small) }
 
 pub loop-y-preserved : goal.loop-y-preserved
@@ -41,5 +41,5 @@ returns-clause-value c =
 pub returns-clause-small : goal.returns-clause-small
 returns-clause-small c =
     let k = c.args.self.now in
-    let e : c.loop-y.y ≤ 4096 = omega (arith, k.pixels.along, k.scene.now.phase.high) in
+    let e : c.loop-y.y ≤ 4096 = omega (arith, k.pixels.along, k.scene.now.high) in
     omega (arith, e, c.loop-y.invariant.small)

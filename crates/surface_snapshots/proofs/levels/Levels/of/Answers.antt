@@ -7,7 +7,7 @@ use Rattle.surface_snapshots.proofs.levels.Levels.of.Goals as goal
 
 pub fill_strip-requires : goal.fill_strip-requires
 fill_strip-requires c = record {
-  strip = whole_strip c.args.surface (length c.deref_mut.result.now) (omega (arith, c.args.surface.scene.now.phase.wide)) (c.deref_mut.ensures.len ∙ c.in_ok-cycles.ensures.len);
+  strip = whole_strip c.args.surface (length c.deref_mut.result.now) (omega (arith, c.args.surface.scene.now.wide)) (c.deref_mut.ensures.len ∙ c.in_ok-cycles.ensures.len);
 }
 
 pub invariant_of-result : goal.invariant_of-result

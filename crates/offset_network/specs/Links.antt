@@ -1,5 +1,5 @@
 -- Seam edges with open ends as links between regions, in edge order; None stands for a seam edge with a masked end. No public clause cites this file.
-use Rattle.raster_model.specs.declared.limits.TheConstants.{MAX_NETWORK_NODES, MAX_REGIONS, MAX_SEAM_DEPARTURE, MAX_WEIGHT}
+use Rattle.raster_model.specs.declared.limits.TheConstants.{MAX_TILED_NODES, MAX_REGIONS, MAX_SEAM_DEPARTURE, MAX_WEIGHT}
 use Rattle.std.specs.Prelude.{◌*◌, ◌≡◌, ℕ, ◌<◌, ◌≤◌, Option, Some, None, List, length, slice_index_or, unsigned_abs}
 use Rattle.offset_guess.specs.declared.link.Link.{Link}
 
@@ -19,6 +19,6 @@ IsLinkIn n o = (link : Link) → o ≡ Some link → IsLink n link
 
 -- links between n regions, of which there are no more than a raster can have edges
 pub record AreLinks (n : ℕ) (links : List (Option Link)) : Type 0 where
-  pub few : length links ≤ 2 * MAX_NETWORK_NODES
+  pub few : length links ≤ 2 * MAX_TILED_NODES
   pub regions : n ≤ MAX_REGIONS
   pub each : (i : ℕ) → IsLinkIn n (link_at links i)

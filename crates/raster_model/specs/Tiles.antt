@@ -2,6 +2,7 @@
 use Rattle.std.specs.Prelude.{◌≡◌, ℕ, ◌+◌, ◌-◌, ◌*◌, ◌/◌, ◌%◌, min, ◌<◌, ◌≤◌, ◌↔◌}
 use Rattle.raster_model.specs.declared.tiling.Tiling.{Tiling}
 use Rattle.raster_model.specs.declared.tiling.Window.{Window}
+use Rattle.raster_model.specs.Limits.{max_pixels, max_side}
 use Rattle.raster_model.specs.Raster.{Raster}
 use Rattle.raster_model.specs.Sums.{Field}
 
@@ -45,6 +46,12 @@ place_in window x y = (y - window.y0) * width_of window + (x - window.x0)
 pub record IsWindowIn (width h : ℕ) (window : Window) : Type 0 where
   pub across : (window.x0 ≤ window.x1) × (window.x1 < width)
   pub along : (window.y0 ≤ window.y1) × (window.y1 < h)
+
+-- the window has a pixel, and is no larger than a raster may be
+pub record IsRasterWindow (window : Window) : Type 0 where
+  pub across : (window.x0 ≤ window.x1) × (window.x1 < max_side)
+  pub along : (window.y0 ≤ window.y1) × (window.y1 < max_side)
+  pub few : width_of window * height_of window ≤ max_pixels
 
 -- the window has exactly the raster's pixels of one tile
 pub record IsWindowOf (tiling : Tiling) (tile : ℕ) (window : Window) : Type 0 where

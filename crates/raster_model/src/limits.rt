@@ -41,7 +41,7 @@ pub const MAX_OFFSET: u64 = 1 << 46;
 pub const MAX_WHOLE_CYCLES: u64 = 1 << 46;
 
 /// The greatest absolute number of cycles to which corrections of a window add up.
-pub const MAX_REACHED_CYCLES: u64 = 1 << 44;
+pub const MAX_REACHED_CYCLES: u64 = 1 << 48;
 
 /// The greatest absolute number of cycles of a surface at a pixel.
 pub const MAX_HEIGHT: u64 = 1 << 48;
@@ -50,7 +50,10 @@ pub const MAX_HEIGHT: u64 = 1 << 48;
 pub const MAX_DEPARTURE: u64 = 2 * MAX_HEIGHT + 1;
 
 /// The most nodes of a network over a raster.
-pub const MAX_NETWORK_NODES: u32 = 1 << 24;
+pub const MAX_NETWORK_NODES: u32 = 1 << 28;
+
+/// The most nodes of a network over a raster that has tiles.
+pub const MAX_TILED_NODES: u32 = 1 << 24;
 
 /// The least side of a tile, in pixels.
 pub const MIN_TILE_SIDE: u32 = 2;

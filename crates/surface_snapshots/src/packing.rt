@@ -4,7 +4,7 @@ ghost use Rattle.surface_snapshots.specs.Runs.{ArePacked, Extends, runs_of};
 ghost use Rattle.surface_snapshots.specs.Packing.{AreLabelsBefore};
 
 use crate::runs::{Run, TileRuns};
-use raster_model::{MAX_NETWORK_NODES, Window};
+use raster_model::{MAX_TILED_NODES, Window};
 use std::alloc::{AllocError, Global};
 use std::sync::Arc;
 
@@ -30,7 +30,7 @@ impl Packing {
 
     /// The runs of a tile whose pixels have these labels in row order.
     pub(crate) fn pack(&mut self, alloc: Global, list: &[u32]) -> Result<TileRuns, AllocError>
-        requires few { length list.now ≤ MAX_NETWORK_NODES }
+        requires few { length list.now ≤ MAX_TILED_NODES }
         ensures kept { IfOk result (λ tile. Extends self.new.labels.items self.old.labels.items) }
         ensures packed { IfOk result (λ tile. ArePacked self.new.labels.items (runs_of tile).first (runs_of tile).runs list.now (length list.now)) }
     {
@@ -53,7 +53,7 @@ impl Packing {
     /// among them becomes the last of them.
     fn number(&mut self, first: usize, label: u32) -> Result<u32, AllocError>
         requires first { first < length self.old.labels.items }
-        requires few { length self.old.labels.items ≤ first + (MAX_NETWORK_NODES + 1) }
+        requires few { length self.old.labels.items ≤ first + (MAX_TILED_NODES + 1) }
         ensures kept { IfOk result (λ number. Extends self.new.labels.items self.old.labels.items) }
         ensures more { IfOk result (λ number. length self.new.labels.items ≤ length self.old.labels.items + 1) }
         ensures told { IfOk result (λ number. slice_get self.new.labels.items (first + number) ≡ Some label) }

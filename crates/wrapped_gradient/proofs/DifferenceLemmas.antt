@@ -6,10 +6,10 @@ use Rattle.std.proofs.lemmas.Bool.{cases_eq, cases_lt}
 use Rattle.std.proofs.lemmas.Int.{ints}
 use Rattle.std.proofs.lemmas.List.{get_or-set_same, get_or-set_other, length-set, take_at}
 use Rattle.std.proofs.lemmas.List.Edits.{get_or-between, length-between}
-use Rattle.raster_model.specs.declared.scene.Scene.{Scene}
+use Rattle.raster_model.specs.declared.sheet.Sheet.{Sheet}
 use Rattle.raster_model.specs.Limits.{IsSlope}
 use Rattle.raster_model.specs.Phase.{wrapped_by}
-use Rattle.raster_model.specs.Scene.{raster_of}
+use Rattle.raster_model.specs.Sheets.{sheet_raster}
 use Rattle.raster_model.specs.Sums.{Field}
 use Rattle.wrapped_gradient.specs.Rows.{AreDifferences, of_right_edges, of_down_edges}
 use Rattle.wrapped_gradient.proofs.Places.{field_at}
@@ -74,31 +74,31 @@ part_count samples i n l =
     let minus : i + n - i ≡ n = omega arith in
     length-between samples i (i + n) l ∙ minus
 
-module _ (s : Scene) (samples : List ℕ) (e : samples ≡ s.phase.samples.items) where
-  right_pair : (slope : ℤ) → slope ≡ s.terms.ramp_x → (x0 y n b : ℕ) → b < n → wrapped_by slope (slice_index (between (y * s.phase.width + x0) (y * s.phase.width + x0 + n) samples) b) (slice_index (between (y * s.phase.width + x0 + 1) (y * s.phase.width + x0 + 1 + n) samples) b) -ℤ slope ≡ of_right_edges (raster_of s) (x0 + b) y
+module _ (s : Sheet) (samples : List ℕ) (e : samples ≡ s.phase.now.samples.items) where
+  right_pair : (slope : ℤ) → slope ≡ s.terms.ramp_x → (x0 y n b : ℕ) → b < n → wrapped_by slope (slice_index (between (y * s.phase.now.width + x0) (y * s.phase.now.width + x0 + n) samples) b) (slice_index (between (y * s.phase.now.width + x0 + 1) (y * s.phase.now.width + x0 + 1 + n) samples) b) -ℤ slope ≡ of_right_edges (sheet_raster s) (x0 + b) y
   right_pair slope same x0 y n b l =
-      let first : y * s.phase.width + x0 + b ≡ y * s.phase.width + (x0 + b) = omega arith in
-      let other : y * s.phase.width + x0 + 1 + b ≡ y * s.phase.width + (x0 + b + 1) = omega arith in
-      same_difference same (phase_in samples s.phase.samples.items (y * s.phase.width + x0) (y * s.phase.width + (x0 + b)) n b e l first) (phase_in samples s.phase.samples.items (y * s.phase.width + x0 + 1) (y * s.phase.width + (x0 + b + 1)) n b e l other)
+      let first : y * s.phase.now.width + x0 + b ≡ y * s.phase.now.width + (x0 + b) = omega arith in
+      let other : y * s.phase.now.width + x0 + 1 + b ≡ y * s.phase.now.width + (x0 + b + 1) = omega arith in
+      same_difference same (phase_in samples s.phase.now.samples.items (y * s.phase.now.width + x0) (y * s.phase.now.width + (x0 + b)) n b e l first) (phase_in samples s.phase.now.samples.items (y * s.phase.now.width + x0 + 1) (y * s.phase.now.width + (x0 + b + 1)) n b e l other)
 
-  down_pair : (slope : ℤ) → slope ≡ s.terms.ramp_y → (x0 y n b : ℕ) → b < n → wrapped_by slope (slice_index (between (y * s.phase.width + x0) (y * s.phase.width + x0 + n) samples) b) (slice_index (between (y * s.phase.width + x0 + s.phase.width) (y * s.phase.width + x0 + s.phase.width + n) samples) b) -ℤ slope ≡ of_down_edges (raster_of s) (x0 + b) y
+  down_pair : (slope : ℤ) → slope ≡ s.terms.ramp_y → (x0 y n b : ℕ) → b < n → wrapped_by slope (slice_index (between (y * s.phase.now.width + x0) (y * s.phase.now.width + x0 + n) samples) b) (slice_index (between (y * s.phase.now.width + x0 + s.phase.now.width) (y * s.phase.now.width + x0 + s.phase.now.width + n) samples) b) -ℤ slope ≡ of_down_edges (sheet_raster s) (x0 + b) y
   down_pair slope same x0 y n b l =
-      let first : y * s.phase.width + x0 + b ≡ y * s.phase.width + (x0 + b) = omega arith in
-      same_difference same (phase_in samples s.phase.samples.items (y * s.phase.width + x0) (y * s.phase.width + (x0 + b)) n b e l first) (phase_in samples s.phase.samples.items (y * s.phase.width + x0 + s.phase.width) ((y + 1) * s.phase.width + (x0 + b)) n b e l (place_below s.phase.width x0 y b))
+      let first : y * s.phase.now.width + x0 + b ≡ y * s.phase.now.width + (x0 + b) = omega arith in
+      same_difference same (phase_in samples s.phase.now.samples.items (y * s.phase.now.width + x0) (y * s.phase.now.width + (x0 + b)) n b e l first) (phase_in samples s.phase.now.samples.items (y * s.phase.now.width + x0 + s.phase.now.width) ((y + 1) * s.phase.now.width + (x0 + b)) n b e l (place_below s.phase.now.width x0 y b))
 
-  pub right_row : (slope : ℤ) → slope ≡ s.terms.ramp_x → (x0 y0 n y : ℕ) (old new : List ℤ) → y0 ≤ y → y * s.phase.width + x0 + n ≤ length samples → AreDifferences slope (between (y * s.phase.width + x0) (y * s.phase.width + x0 + n) samples) (between (y * s.phase.width + x0 + 1) (y * s.phase.width + x0 + 1 + n) samples) ((y - y0) * n) (length (between (y * s.phase.width + x0) (y * s.phase.width + x0 + n) samples)) old new → AreTold (of_right_edges (raster_of s)) x0 y0 n ((y - y0) * n) old → AreTold (of_right_edges (raster_of s)) x0 y0 n ((y + 1 - y0) * n) new
+  pub right_row : (slope : ℤ) → slope ≡ s.terms.ramp_x → (x0 y0 n y : ℕ) (old new : List ℤ) → y0 ≤ y → y * s.phase.now.width + x0 + n ≤ length samples → AreDifferences slope (between (y * s.phase.now.width + x0) (y * s.phase.now.width + x0 + n) samples) (between (y * s.phase.now.width + x0 + 1) (y * s.phase.now.width + x0 + 1 + n) samples) ((y - y0) * n) (length (between (y * s.phase.now.width + x0) (y * s.phase.now.width + x0 + n) samples)) old new → AreTold (of_right_edges (sheet_raster s)) x0 y0 n ((y - y0) * n) old → AreTold (of_right_edges (sheet_raster s)) x0 y0 n ((y + 1 - y0) * n) new
   right_row slope same x0 y0 n y old new l within set_ h =
       let back : y ≡ y0 + (y - y0) = omega (arith, l) in
       let next : y - y0 + 1 ≡ y + 1 - y0 = omega (arith, l) in
-      subst (λ (a : ℕ). AreTold (of_right_edges (raster_of s)) x0 y0 n (a * n) new) next
-      (row_told (of_right_edges (raster_of s)) slope _ _ x0 y0 n _ (y - y0) old new (part_count samples (y * s.phase.width + x0) n within) (λ b m. right_pair slope same x0 y n b m ∙ ap (λ (k : ℕ). of_right_edges (raster_of s) (x0 + b) k) back) set_ h)
+      subst (λ (a : ℕ). AreTold (of_right_edges (sheet_raster s)) x0 y0 n (a * n) new) next
+      (row_told (of_right_edges (sheet_raster s)) slope _ _ x0 y0 n _ (y - y0) old new (part_count samples (y * s.phase.now.width + x0) n within) (λ b m. right_pair slope same x0 y n b m ∙ ap (λ (k : ℕ). of_right_edges (sheet_raster s) (x0 + b) k) back) set_ h)
 
-  pub down_row : (slope : ℤ) → slope ≡ s.terms.ramp_y → (x0 y0 n y : ℕ) (old new : List ℤ) → y0 ≤ y → y * s.phase.width + x0 + n ≤ length samples → AreDifferences slope (between (y * s.phase.width + x0) (y * s.phase.width + x0 + n) samples) (between (y * s.phase.width + x0 + s.phase.width) (y * s.phase.width + x0 + s.phase.width + n) samples) ((y - y0) * n) (length (between (y * s.phase.width + x0) (y * s.phase.width + x0 + n) samples)) old new → AreTold (of_down_edges (raster_of s)) x0 y0 n ((y - y0) * n) old → AreTold (of_down_edges (raster_of s)) x0 y0 n ((y + 1 - y0) * n) new
+  pub down_row : (slope : ℤ) → slope ≡ s.terms.ramp_y → (x0 y0 n y : ℕ) (old new : List ℤ) → y0 ≤ y → y * s.phase.now.width + x0 + n ≤ length samples → AreDifferences slope (between (y * s.phase.now.width + x0) (y * s.phase.now.width + x0 + n) samples) (between (y * s.phase.now.width + x0 + s.phase.now.width) (y * s.phase.now.width + x0 + s.phase.now.width + n) samples) ((y - y0) * n) (length (between (y * s.phase.now.width + x0) (y * s.phase.now.width + x0 + n) samples)) old new → AreTold (of_down_edges (sheet_raster s)) x0 y0 n ((y - y0) * n) old → AreTold (of_down_edges (sheet_raster s)) x0 y0 n ((y + 1 - y0) * n) new
   down_row slope same x0 y0 n y old new l within set_ h =
       let back : y ≡ y0 + (y - y0) = omega (arith, l) in
       let next : y - y0 + 1 ≡ y + 1 - y0 = omega (arith, l) in
-      subst (λ (a : ℕ). AreTold (of_down_edges (raster_of s)) x0 y0 n (a * n) new) next
-      (row_told (of_down_edges (raster_of s)) slope _ _ x0 y0 n _ (y - y0) old new (part_count samples (y * s.phase.width + x0) n within) (λ b m. down_pair slope same x0 y n b m ∙ ap (λ (k : ℕ). of_down_edges (raster_of s) (x0 + b) k) back) set_ h)
+      subst (λ (a : ℕ). AreTold (of_down_edges (sheet_raster s)) x0 y0 n (a * n) new) next
+      (row_told (of_down_edges (sheet_raster s)) slope _ _ x0 y0 n _ (y - y0) old new (part_count samples (y * s.phase.now.width + x0) n within) (λ b m. down_pair slope same x0 y n b m ∙ ap (λ (k : ℕ). of_down_edges (sheet_raster s) (x0 + b) k) back) set_ h)
 
 -- rows of a raster's samples
 pub part_inside : (w h x y n : ℕ) → y < h → x + n ≤ w → y * w + x + n ≤ w * h

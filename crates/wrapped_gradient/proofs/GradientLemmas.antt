@@ -1,17 +1,19 @@
--- Wrapped differences over a window are those of the scene.
+-- Wrapped differences over a window are those of the raster.
 use Rattle.std.proofs.Common.{inl, inr, ◌≡◌, ℕ, ◌+◌, ◌-◌, ◌*◌, ◌<◌, ◌≤◌, arith, List, Bool, true, false}
-use Rattle.std.specs.Prelude.{ℤ, pos, ◌+ℤ◌, ◌-ℤ◌, int_div}
+use Rattle.std.specs.Prelude.{ℤ, pos, ◌+ℤ◌, ◌-ℤ◌, int_div, IfOk, Result, Ok, Err}
 use Rattle.std.proofs.lemmas.Int.{ints}
+use Rattle.std.proofs.lemmas.Nat.{mul-le}
 use Rattle.raster_model.specs.declared.edge.Edge.{Edge}
-use Rattle.raster_model.specs.declared.scene.Scene.{Scene}
 use Rattle.raster_model.specs.declared.tiling.Window.{Window}
-use Rattle.raster_model.specs.Sums.{right_edge, down_edge}
+use Rattle.raster_model.specs.Sums.{Field, right_edge, down_edge}
 use Rattle.raster_model.specs.Raster.{Raster, gradient}
 use Rattle.raster_model.specs.Seams.{IsEarlier}
 use Rattle.wrapped_gradient.specs.GradientsView.{GradientsView}
 use Rattle.wrapped_gradient.specs.Gradients.{AreGradientsOf, HaveResiduesOf, residue_at}
 use Rattle.wrapped_gradient.specs.Rows.{AreInRows, of_right_edges, of_down_edges}
-use Rattle.raster_model.specs.Tiles.{width_of, height_of}
+use Rattle.raster_model.specs.Limits.{max_pixels, max_side}
+use Rattle.raster_model.specs.Tiles.{IsRasterWindow, IsWindowIn, width_of, height_of}
+use Rattle.raster_model.specs.Tilings.{tiled_by}
 use Rattle.wrapped_gradient.specs.Windows.{IsEdgeOf, IsCellOf, edge_value}
 use Rattle.wrapped_gradient.proofs.Places.{place_within}
 use Rattle.wrapped_gradient.proofs.RowLemmas.{rows_tell}
@@ -45,9 +47,26 @@ right_edge_of v x y a b c d = record { start = (a, omega arith, c, d); end = (om
 pub down_edge_of : (v : Window) (x y : ℕ) → v.x0 ≤ x → x ≤ v.x1 → v.y0 ≤ y → y < v.y1 → IsEdgeOf v (down_edge x y)
 down_edge_of v x y a b c d = record { start = (a, b, c, omega arith); end = (a, b, omega arith, omega arith) }
 
--- wrapped differences of a scene have its residues
-pub residues_are : (s : Scene) (g : GradientsView) → AreGradientsOf s g → HaveResiduesOf s g
-residues_are s g h x y i =
+-- they are so whatever its tiles
+pub retiled : (r : Raster) (tile : Field ℕ) (n : ℕ) (g : GradientsView) → AreGradientsOf (tiled_by r tile n) g → AreGradientsOf r g
+retiled r tile n g h = record { inside = h.inside; differences = h.differences }
+
+-- a window of a raster is no larger than the raster
+pub window_fits : (w h : ℕ) (v : Window) → w ≤ max_side → h ≤ max_side → w * h ≤ max_pixels → IsWindowIn w h v → IsRasterWindow v
+window_fits w h v wide high few is = record {
+  across = (is.across.0, omega (arith, is.across.1, wide));
+  along = (is.along.0, omega (arith, is.along.1, high));
+  few = omega (arith, few, mul-le (width_of v) (height_of v) w h (omega (arith, is.across.0, is.across.1)) (omega (arith, is.along.0, is.along.1)));
+}
+
+-- what holds of a value that there is, where another thing follows from it
+pub if_ok_follows : {T E : Type 0} {P Q : T → Type 0} → ((t : T) → P t → Q t) → (r : Result T E) → IfOk r P → IfOk r Q
+if_ok_follows f (Ok t) h = f t h
+if_ok_follows f (Err e) h = h
+
+-- wrapped differences of a raster have its residues
+pub residues_are : (r : Raster) (g : GradientsView) → AreGradientsOf r g → HaveResiduesOf r g
+residues_are r g h x y i =
     let top = h.differences (right_edge x y) (right_edge_of g.window x y i.0 i.1 i.2 (omega arith)) in
     let right = h.differences (down_edge (x + 1) y) (down_edge_of g.window (x + 1) y (omega arith) (omega arith) i.2 i.3) in
     let bottom = h.differences (right_edge x (y + 1)) (right_edge_of g.window x (y + 1) i.0 i.1 (omega arith) (omega arith)) in

@@ -1,10 +1,8 @@
 -- Wrapped differences over a window (Costantini 1998) and the residues of its cells (Goldstein, Zebker and Werner 1988).
 use Rattle.std.specs.Prelude.{◌≡◌, ◌≢◌, ℕ, ℤ, pos, ◌+ℤ◌, int_div}
 use Rattle.raster_model.specs.declared.edge.Edge.{Edge}
-use Rattle.raster_model.specs.declared.scene.Scene.{Scene}
 use Rattle.raster_model.specs.Sums.{Field}
-use Rattle.raster_model.specs.Raster.{gradient, residue}
-use Rattle.raster_model.specs.Scene.{raster_of}
+use Rattle.raster_model.specs.Raster.{Raster, gradient, residue}
 use Rattle.raster_model.specs.Seams.{IsEarlier}
 use Rattle.raster_model.specs.Terms.{slope_of}
 use Rattle.raster_model.specs.Tiles.{IsWindowIn}
@@ -19,14 +17,14 @@ gradient_at gradients edge = slope_of gradients.terms edge.down +ℤ edge_value 
 abbrev pub residue_at : GradientsView → Field ℤ
 residue_at gradients x y = int_div (round (gradient_at gradients) x y) (pos 65536)
 
--- the window lies in the scene's raster, and what is held for its edges are the scene's wrapped differences
-pub record AreGradientsOf (scene : Scene) (gradients : GradientsView) : Type 0 where
-  pub inside : IsWindowIn scene.phase.width scene.phase.height gradients.window
-  pub differences : (e : Edge) → IsEdgeOf gradients.window e → gradient_at gradients e ≡ gradient (raster_of scene) e
+-- the window lies in the raster, and what is held for its edges are the raster's wrapped differences
+pub record AreGradientsOf (raster : Raster) (gradients : GradientsView) : Type 0 where
+  pub inside : IsWindowIn raster.width raster.height gradients.window
+  pub differences : (e : Edge) → IsEdgeOf gradients.window e → gradient_at gradients e ≡ gradient raster e
 
--- the residues of the window's cells are those of the scene
-abbrev pub HaveResiduesOf : Scene → GradientsView → Type 0
-HaveResiduesOf scene gradients = (x y : ℕ) → IsCellOf gradients.window x y → residue_at gradients x y ≡ residue (raster_of scene) x y
+-- the residues of the window's cells are those of the raster
+abbrev pub HaveResiduesOf : Raster → GradientsView → Type 0
+HaveResiduesOf raster gradients = (x y : ℕ) → IsCellOf gradients.window x y → residue_at gradients x y ≡ residue raster x y
 
 -- no cell of the window has a residue other than 0
 abbrev pub HasNoResidue : GradientsView → Type 0

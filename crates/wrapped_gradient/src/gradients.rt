@@ -1,11 +1,12 @@
-ghost use Rattle.raster_model.specs.Limits.{IsSlope, max_tiled_side};
+ghost use Rattle.raster_model.specs.Limits.{IsSlope};
 ghost use Rattle.raster_model.specs.Phase.{wrapped_by};
 ghost use Rattle.raster_model.specs.Scene.{raster_of};
-ghost use Rattle.raster_model.specs.Tiles.{IsWindowIn, width_of, height_of};
+ghost use Rattle.raster_model.specs.Sheets.{sheet_raster};
+ghost use Rattle.raster_model.specs.Tiles.{IsRasterWindow, IsWindowIn, width_of, height_of};
 ghost use Rattle.std.specs.Prelude.{◌≡◌, ◌+◌, ◌-◌, ◌*◌, ◌≤◌, ◌-ℤ◌, IfOk, length};
 ghost use Rattle.wrapped_gradient.specs.Rows.{AreDifferences, AreInRows, of_down_edges, of_right_edges};
 
-use raster_model::{Scene, Terms, Window, wrapped_ramp};
+use raster_model::{Scene, Sheet, Terms, Window, wrapped_ramp};
 use std::alloc::{AllocError, Global};
 use std::marker::Model;
 
@@ -21,8 +22,8 @@ pub struct Gradients {
 }
 
 impl Model for Gradients {
-    ghost use Rattle.raster_model.specs.Limits.{max_tiled_side};
-    ghost use Rattle.std.specs.Prelude.{◌≡◌, ◌*◌, ◌<◌, ◌≤◌};
+    ghost use Rattle.raster_model.specs.Tiles.{IsRasterWindow};
+    ghost use Rattle.std.specs.Prelude.{◌≡◌, ◌*◌};
     ghost use Rattle.wrapped_gradient.specs.GradientsView.{GradientsView};
     ghost use Rattle.wrapped_gradient.specs.Windows.{HaveShapeOf};
 
@@ -30,7 +31,7 @@ impl Model for Gradients {
 
     ghost view = { λ g. record { window = g.window; terms = g.terms; right = g.right.items; down = g.down.items } };
 
-    ghost invariant = { λ g. (g.window.x0 ≤ g.window.x1) × (g.window.x1 < max_tiled_side) × (g.window.y0 ≤ g.window.y1) × (g.window.y1 < max_tiled_side) × HaveShapeOf g.window g.right.items g.down.items };
+    ghost invariant = { λ g. IsRasterWindow g.window × HaveShapeOf g.window g.right.items g.down.items };
 }
 
 impl Gradients {
@@ -63,22 +64,32 @@ impl Gradients {
         requires { IsWindowIn scene.now.phase.width scene.now.phase.height window }
         ensures window { IfOk result (λ made. made.window ≡ window) }
         ensures terms { IfOk result (λ made. made.terms ≡ scene.now.terms) }
-        ensures differences { IfOk result (λ made. AreGradientsOf scene.now made) }
-        ensures residues { IfOk result (λ made. HaveResiduesOf scene.now made) }
+        ensures differences { IfOk result (λ made. AreGradientsOf (raster_of scene.now) made) }
+        ensures residues { IfOk result (λ made. HaveResiduesOf (raster_of scene.now) made) }
+    {
+        Gradients::over(alloc, &scene.sheet(), window)
+    }
+
+    /// The wrapped differences of a sheet over a window of its raster.
+    pub fn over(alloc: Global, sheet: &Sheet, window: Window) -> Result<Gradients, AllocError>
+        requires { IsWindowIn sheet.now.phase.now.width sheet.now.phase.now.height window }
+        ensures window { IfOk result (λ made. made.window ≡ window) }
+        ensures terms { IfOk result (λ made. made.terms ≡ sheet.now.terms) }
+        ensures differences { IfOk result (λ made. AreGradientsOf (sheet_raster sheet.now) made) }
+        ensures residues { IfOk result (λ made. HaveResiduesOf (sheet_raster sheet.now) made) }
     {
         Ok(Gradients {
             window,
-            terms: scene.terms,
-            right: right_differences(alloc, scene, window)?,
-            down: down_differences(alloc, scene, window)?,
+            terms: sheet.terms,
+            right: right_differences(alloc, sheet, window)?,
+            down: down_differences(alloc, sheet, window)?,
         })
     }
 
     /// The window that they were made for.
     pub fn window(&self) -> Window
         ensures value { result ≡ self.now.window }
-        ensures across { (result.x0 ≤ result.x1) × (result.x1 < max_tiled_side) }
-        ensures along { (result.y0 ≤ result.y1) × (result.y1 < max_tiled_side) }
+        ensures window { IsRasterWindow result }
     {
         self.window
     }
@@ -145,41 +156,41 @@ impl Gradients {
 }
 
 /// The wrapped differences of the window's right edges, less their slope.
-fn right_differences(alloc: Global, scene: &Scene, window: Window) -> Result<Vec<i16>, AllocError>
-    requires { IsWindowIn scene.now.phase.width scene.now.phase.height window }
-    ensures { IfOk result (λ list. AreInRows (of_right_edges (raster_of scene.now)) window.x0 window.y0 (width_of window - 1) ((width_of window - 1) * height_of window) list.items) }
+fn right_differences(alloc: Global, sheet: &Sheet, window: Window) -> Result<Vec<i16>, AllocError>
+    requires { IsWindowIn sheet.now.phase.now.width sheet.now.phase.now.height window }
+    ensures { IfOk result (λ list. AreInRows (of_right_edges (sheet_raster sheet.now)) window.x0 window.y0 (width_of window - 1) ((width_of window - 1) * height_of window) list.items) }
 {
     let across = (window.x1 - window.x0) as usize;
     let along = (window.y1 - window.y0) as usize + 1;
-    let width = scene.phase.width as usize;
-    let samples: &[u16] = &scene.phase.samples;
+    let width = sheet.phase.width as usize;
+    let samples: &[u16] = &sheet.phase.samples;
     let mut list = vec![in alloc; 0; across * along]?;
     for y in window.y0..window.y1 + 1 {
         let first = y as usize * width + window.x0 as usize;
         let from = &samples[first..first + across];
         let to = &samples[first + 1..first + 1 + across];
         let start = (y - window.y0) as usize * across;
-        set_differences(from, to, scene.terms.ramp_x, &mut list, start);
+        set_differences(from, to, sheet.terms.ramp_x, &mut list, start);
     }
     Ok(list)
 }
 
 /// The wrapped differences of the window's down edges, less their slope.
-fn down_differences(alloc: Global, scene: &Scene, window: Window) -> Result<Vec<i16>, AllocError>
-    requires { IsWindowIn scene.now.phase.width scene.now.phase.height window }
-    ensures { IfOk result (λ list. AreInRows (of_down_edges (raster_of scene.now)) window.x0 window.y0 (width_of window) (width_of window * (height_of window - 1)) list.items) }
+fn down_differences(alloc: Global, sheet: &Sheet, window: Window) -> Result<Vec<i16>, AllocError>
+    requires { IsWindowIn sheet.now.phase.now.width sheet.now.phase.now.height window }
+    ensures { IfOk result (λ list. AreInRows (of_down_edges (sheet_raster sheet.now)) window.x0 window.y0 (width_of window) (width_of window * (height_of window - 1)) list.items) }
 {
     let across = (window.x1 - window.x0) as usize + 1;
     let along = (window.y1 - window.y0) as usize;
-    let width = scene.phase.width as usize;
-    let samples: &[u16] = &scene.phase.samples;
+    let width = sheet.phase.width as usize;
+    let samples: &[u16] = &sheet.phase.samples;
     let mut list = vec![in alloc; 0; across * along]?;
     for y in window.y0..window.y1 {
         let first = y as usize * width + window.x0 as usize;
         let from = &samples[first..first + across];
         let to = &samples[first + width..first + width + across];
         let start = (y - window.y0) as usize * across;
-        set_differences(from, to, scene.terms.ramp_y, &mut list, start);
+        set_differences(from, to, sheet.terms.ramp_y, &mut list, start);
     }
     Ok(list)
 }

@@ -7,12 +7,12 @@ use Rattle.wrapped_gradient.proofs.gradients.Gradients.residue.Goals as goal
 pub overflow_add-x : goal.overflow_add-x
 overflow_add-x c =
     let same = ap (λ (v : GradientsView). v.window.x1) (sym c.self.view_is) in
-    omega (arith, same, c.requires.across, c.self.invariant.1)
+    omega (arith, same, c.requires.across, c.self.invariant.0.across)
 
 pub overflow_add-y : goal.overflow_add-y
 overflow_add-y c =
     let same = ap (λ (v : GradientsView). v.window.y1) (sym c.self.view_is) in
-    omega (arith, same, c.requires.along, c.self.invariant.3)
+    omega (arith, same, c.requires.along, c.self.invariant.0.along)
 
 pub overflow_sub-result-2 : goal.overflow_sub-result-2
 overflow_sub-result-2 c =

@@ -40,7 +40,6 @@ use crate::heights::Heights;
 use crate::limits::{MAX_CYCLE_COST, MAX_DEPARTURE};
 use crate::mask::Mask;
 use crate::measures::{departure, weight};
-use crate::phase::wrapped_ramp;
 use crate::plane::Plane;
 use crate::scene::Scene;
 use crate::weights::{EdgeWeights, RuleKind};
@@ -109,9 +108,7 @@ pub fn gradient(scene: &Scene, edge: Edge) -> i32
     ensures low { (slope_of scene.now.terms edge.down -ℤ pos 32768) ≤ℤ result }
     ensures high { result ≤ℤ (slope_of scene.now.terms edge.down +ℤ pos 32767) }
 {
-    let from = scene.phase.sample(edge.x, edge.y);
-    let to = scene.phase.sample(edge.end_x(), edge.end_y());
-    wrapped_ramp(from, to, scene.terms.slope(edge.down))
+    scene.sheet().gradient(edge)
 }
 
 /// The residue of the cell with the upper left corner (`x`, `y`), in cycles: -1, 0 or 1. It is the sum of
@@ -123,25 +120,7 @@ pub fn residue(scene: &Scene, x: u32, y: u32) -> i32
     ensures value { result ≡ residue_of (raster_of scene.now) x y }
     ensures small { unsigned_abs result ≤ 1 }
 {
-    let top = gradient(scene, Edge { x, y, down: false });
-    let right = gradient(
-        scene,
-        Edge {
-            x: x + 1,
-            y,
-            down: true,
-        },
-    );
-    let bottom = gradient(
-        scene,
-        Edge {
-            x,
-            y: y + 1,
-            down: false,
-        },
-    );
-    let left = gradient(scene, Edge { x, y, down: true });
-    (top + right - bottom - left) / 65536
+    scene.sheet().residue(x, y)
 }
 
 /// Whether both ends of an edge lie in a tile.

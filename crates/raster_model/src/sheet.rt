@@ -5,7 +5,7 @@ use crate::edge::Edge;
 use crate::heights::Heights;
 use crate::limits::MAX_DEPARTURE;
 use crate::mask::Mask;
-use crate::phase::turns_ramp;
+use crate::phase::{turns_ramp, wrapped_ramp};
 use crate::plane::Plane;
 use crate::terms::Terms;
 use crate::weights::{EdgeWeights, RuleKind};
@@ -32,12 +32,13 @@ pub struct Sheet<'a> {
 
 impl Sheet<'_> {
     ghost use Rattle.raster_model.specs.Masks.{open_at};
-    ghost use Rattle.raster_model.specs.Raster.{departure as departure_of, lifted, masked_weight, turns_of};
+    ghost use Rattle.raster_model.specs.Raster.{departure as departure_of, gradient as gradient_of, lifted, masked_weight, residue as residue_of, turns_of};
     ghost use Rattle.raster_model.specs.Seams.{IsFirstOpen, IsOpenPixel};
     ghost use Rattle.raster_model.specs.Sheets.{sheet_raster};
     ghost use Rattle.raster_model.specs.Sums.{at_edge_end, at_edge_start, is_edge};
+    ghost use Rattle.raster_model.specs.Terms.{slope_of};
     ghost use Rattle.raster_model.specs.Weights.{edge_weight};
-    ghost use Rattle.std.specs.Prelude.{◌+◌, ◌≤◌, ◌^◌, ℕ, IfNone, IfSome, IsTrue, unsigned_abs};
+    ghost use Rattle.std.specs.Prelude.{◌+◌, ◌<◌, ◌≤◌, ◌^◌, ◌+ℤ◌, ◌-ℤ◌, ◌≤ℤ◌, pos, ℕ, IfNone, IfSome, IsTrue, unsigned_abs};
 
     /// The weight of an edge under a mask: 0 if an end is masked.
     pub fn weight(&self, mask: &Mask, edge: Edge) -> u16
@@ -76,6 +77,42 @@ impl Sheet<'_> {
         let from = self.phase.sample(edge.x, edge.y);
         let to = self.phase.sample(edge.end_x(), edge.end_y());
         turns_ramp(from, to, self.terms.slope(edge.down))
+    }
+
+    /// The wrapped difference of an edge around its slope, from its first pixel to the other.
+    pub fn gradient(&self, edge: Edge) -> i32
+        requires { IsTrue (is_edge self.now.phase.now.width self.now.phase.now.height edge) }
+        ensures value { result ≡ gradient_of (sheet_raster self.now) edge }
+        ensures low { (slope_of self.now.terms edge.down -ℤ pos 32768) ≤ℤ result }
+        ensures high { result ≤ℤ (slope_of self.now.terms edge.down +ℤ pos 32767) }
+    {
+        let from = self.phase.sample(edge.x, edge.y);
+        let to = self.phase.sample(edge.end_x(), edge.end_y());
+        wrapped_ramp(from, to, self.terms.slope(edge.down))
+    }
+
+    /// The residue of the cell with the upper left corner (`x`, `y`), in cycles: -1, 0 or 1. It is the sum of the wrapped
+    /// differences along the cell's top and right sides, minus those along its bottom and left sides.
+    /// (Goldstein, Zebker and Werner 1988.)
+    pub fn residue(&self, x: u32, y: u32) -> i32
+        requires across { x + 1 < self.now.phase.now.width }
+        requires along { y + 1 < self.now.phase.now.height }
+        ensures value { result ≡ residue_of (sheet_raster self.now) x y }
+        ensures small { unsigned_abs result ≤ 1 }
+    {
+        let top = self.gradient(Edge { x, y, down: false });
+        let right = self.gradient(Edge {
+            x: x + 1,
+            y,
+            down: true,
+        });
+        let bottom = self.gradient(Edge {
+            x,
+            y: y + 1,
+            down: false,
+        });
+        let left = self.gradient(Edge { x, y, down: true });
+        (top + right - bottom - left) / 65536
     }
 
     /// The whole cycles by which a surface departs from the wrapped difference of an edge, whose ends are open.

@@ -30,15 +30,15 @@ module _ (k : Tile) (knows : Field Bool) (known : KnowsTile k knows) where
       ((k.pixels.pixels x y (omega (arith, w, k.pixels.across)) (omega (arith, w, k.pixels.along))).1 w) o
 
   -- what the costs of those edges ask for
-  pub right_asks : (x y : ℕ) → IsWithin k.window x y → x < k.window.x1 → IsTrue (is_edge k.scene.now.phase.width k.scene.now.phase.height (right_edge x y)) × KnowsEnds (held_mask k) knows (right_edge x y)
+  pub right_asks : (x y : ℕ) → IsWithin k.window x y → x < k.window.x1 → IsTrue (is_edge k.sheet.phase.now.width k.sheet.phase.now.height (right_edge x y)) × KnowsEnds (held_mask k) knows (right_edge x y)
   right_asks x y w l = (
-    is_right k.scene.now.phase.width k.scene.now.phase.height x y (omega (arith, l, k.pixels.across)) (omega (arith, w, k.pixels.along)),
+    is_right k.sheet.phase.now.width k.sheet.phase.now.height x y (omega (arith, l, k.pixels.across)) (omega (arith, w, k.pixels.along)),
     λ o. (let b = and_parts (held_mask k x y) (held_mask k (x + 1) y) o in (at_pixel x y w b.0, at_pixel (x + 1) y (omega (arith, w), omega (arith, l), w.2, w.3) b.1)),
   )
 
-  pub lower_asks : (x y : ℕ) → IsWithin k.window x y → y < k.window.y1 → IsTrue (is_edge k.scene.now.phase.width k.scene.now.phase.height (down_edge x y)) × KnowsEnds (held_mask k) knows (down_edge x y)
+  pub lower_asks : (x y : ℕ) → IsWithin k.window x y → y < k.window.y1 → IsTrue (is_edge k.sheet.phase.now.width k.sheet.phase.now.height (down_edge x y)) × KnowsEnds (held_mask k) knows (down_edge x y)
   lower_asks x y w l = (
-    is_lower k.scene.now.phase.width k.scene.now.phase.height x y (omega (arith, w, k.pixels.across)) (omega (arith, l, k.pixels.along)),
+    is_lower k.sheet.phase.now.width k.sheet.phase.now.height x y (omega (arith, w, k.pixels.across)) (omega (arith, l, k.pixels.along)),
     λ o. (let b = and_parts (held_mask k x y) (held_mask k x (y + 1)) o in (at_pixel x y w b.0, at_pixel x (y + 1) (w.0, w.1, omega (arith, w), omega (arith, l)) b.1)),
   )
 

@@ -29,10 +29,10 @@ module _ (k : Tile) (faces : List ℤ) where
   -- the numbers by which code finds it fit, and no cell outside the window has one
   pub face_fits : (x y : ℕ) → IsCellAt k.window x y → Fits w64 (k.window.x1 - k.window.x0) × Fits w64 (y - k.window.y0) × Fits w64 ((y - k.window.y0) * (k.window.x1 - k.window.x0)) × Fits w64 (x - k.window.x0) × Fits w64 ((y - k.window.y0) * (k.window.x1 - k.window.x0) + (x - k.window.x0)) × Fits w64 (((y - k.window.y0) * (k.window.x1 - k.window.x0) + (x - k.window.x0)) * 8)
   face_fits x y c =
-      let m = mul-le (y - k.window.y0) (k.window.x1 - k.window.x0) 4096 4096 (omega (arith, c, k.pixels.along, k.scene.now.high)) (omega (arith, k.pixels.across, k.scene.now.wide)) in
-      let l : x - k.window.x0 ≤ 4096 = omega (arith, c, k.pixels.across, k.scene.now.wide) in
-      let w : k.window.x1 - k.window.x0 ≤ 4096 = omega (arith, k.pixels.across, k.scene.now.wide) in
-      let h : y - k.window.y0 ≤ 4096 = omega (arith, c, k.pixels.along, k.scene.now.high) in
+      let m = mul-le (y - k.window.y0) (k.window.x1 - k.window.x0) 65535 65535 (omega (arith, c, k.pixels.along, k.sheet.phase.now.high)) (omega (arith, k.pixels.across, k.sheet.phase.now.wide)) in
+      let l : x - k.window.x0 ≤ 65535 = omega (arith, c, k.pixels.across, k.sheet.phase.now.wide) in
+      let w : k.window.x1 - k.window.x0 ≤ 65535 = omega (arith, k.pixels.across, k.sheet.phase.now.wide) in
+      let h : y - k.window.y0 ≤ 65535 = omega (arith, c, k.pixels.along, k.sheet.phase.now.high) in
       (record { fits = omega (arith, w) }, record { fits = omega (arith, h) }, record { fits = omega (arith, m) }, record { fits = omega (arith, l) }, record { fits = omega (arith, m, l) }, record { fits = omega (arith, m, l) })
 
   pub no_face : (x y : ℕ) → (IsCellAt k.window x y → ⊥) → pos 0 ≡ faces_at k faces x y
@@ -96,28 +96,28 @@ products_of_faces f r p q fits small e d =
     below n l = omega arith
 
 -- the code's running sum, at 128 bits
-pub sum_fits : (a t : ℤ) (x y : ℕ) → unsigned_abs a ≤ 2 ^ 63 * (4096 * y + x) → unsigned_abs t ≤ 2 ^ 63 → 4096 * y + x < 2 ^ 26 → (to_z w128 (of_z w128 (a +ℤ to_z w128 (of_z w128 t))) ≡ a +ℤ t) × (unsigned_abs (a +ℤ t) ≤ 2 ^ 63 * (4096 * y + (x + 1))) × FitsSigned w128 (a +ℤ to_z w128 (of_z w128 t))
+pub sum_fits : (a t : ℤ) (x y : ℕ) → unsigned_abs a ≤ 2 ^ 63 * (65535 * y + x) → unsigned_abs t ≤ 2 ^ 63 → 65535 * y + x < 2 ^ 33 → (to_z w128 (of_z w128 (a +ℤ to_z w128 (of_z w128 t))) ≡ a +ℤ t) × (unsigned_abs (a +ℤ t) ≤ 2 ^ 63 * (65535 * y + (x + 1))) × FitsSigned w128 (a +ℤ to_z w128 (of_z w128 t))
 sum_fits a t x y k l m = (omega (arith, ints), omega (arith, ints), fits_signed_from_abs w128 (a +ℤ to_z w128 (of_z w128 t)) (omega (arith, ints)))
 
 -- the products, which are 0 where the tile has no cell
 module _ (k : Tile) (f : Field ℤ) where
-  pub product_outside : (x y : ℕ) → x < k.scene.now.phase.width → y < k.scene.now.phase.height → (IsCellAt k.window x y → ⊥) → face_product (held_raster k) k.number f x y ≡ pos 0
+  pub product_outside : (x y : ℕ) → x < k.sheet.phase.now.width → y < k.sheet.phase.now.height → (IsCellAt k.window x y → ⊥) → face_product (held_raster k) k.number f x y ≡ pos 0
   unfolding face_product
   product_outside x y l m n = rw (face_outside (held_raster k) k.number k.window k.pixels f x y n) (zero_times (residue (held_raster k) x y))
     where
       zero_times : (z : ℤ) → pos 0 *ℤ z ≡ pos 0
       zero_times z = omega (arith, ints)
 
-  pub cells_before_fit : (x y : ℕ) → x < k.window.x1 → y < k.window.y1 → 4096 * y + x < 2 ^ 26
-  cells_before_fit x y l m = omega (arith, l, m, k.pixels.across, k.pixels.along, k.scene.now.wide, k.scene.now.high)
+  pub cells_before_fit : (x y : ℕ) → x < k.window.x1 → y < k.window.y1 → 65535 * y + x < 2 ^ 33
+  cells_before_fit x y l m = omega (arith, l, m, k.pixels.across, k.pixels.along, k.sheet.phase.now.wide, k.sheet.phase.now.high)
 
-  pub ends_in_raster : (x y : ℕ) → IsCellAt k.window x y → (x + 1 < k.scene.now.phase.width) × (y + 1 < k.scene.now.phase.height)
+  pub ends_in_raster : (x y : ℕ) → IsCellAt k.window x y → (x + 1 < k.sheet.phase.now.width) × (y + 1 < k.sheet.phase.now.height)
   ends_in_raster x y c = (omega (arith, c, k.pixels.across), omega (arith, c, k.pixels.along))
 
-  pub cells_across_fit : (k.window.x0 ≤ k.window.x1) × (k.window.x1 ≤ k.scene.now.phase.width)
+  pub cells_across_fit : (k.window.x0 ≤ k.window.x1) × (k.window.x1 ≤ k.sheet.phase.now.width)
   cells_across_fit = (omega (arith, k.pixels.across), omega (arith, k.pixels.across))
 
-  pub cells_along_fit : (k.window.y0 ≤ k.window.y1) × (k.window.y1 ≤ k.scene.now.phase.height)
+  pub cells_along_fit : (k.window.y0 ≤ k.window.y1) × (k.window.y1 ≤ k.sheet.phase.now.height)
   cells_along_fit = (omega (arith, k.pixels.along), omega (arith, k.pixels.along))
 
 -- a face of 0 adds nothing

@@ -40,9 +40,9 @@ module _ (k : Tile) (cycles : Field ℤ) (y : ℕ) (row : (k.window.y0 ≤ y) ×
   free_within x l m =
       free_pixel k cycles x y (l, m, row.0, row.1) (λ n. free_edge k cycles (right_edge x y) (right x l n)) (λ n. free_edge k cycles (down_edge x y) (down n x l (omega (arith, m))))
 
-  free_at : (x : ℕ) → x < k.scene.now.phase.width → cost_at k cycles x y ≡ pos 0
+  free_at : (x : ℕ) → x < k.sheet.phase.now.width → cost_at k cycles x y ≡ pos 0
   free_at x l =
-      let high : y < k.scene.now.phase.height = omega (arith, row, k.pixels.along) in
+      let high : y < k.sheet.phase.now.height = omega (arith, row, k.pixels.along) in
       elim (cases_lt x k.window.x0) [
         | inl m ↦ cost_from-outside (held_raster k) (held_mask k) (surface_of_cycles k cycles) k.number k.window k.pixels x y l high (λ w. omega (arith, w, m))
         | inr m ↦ (elim (cases_lt k.window.x1 x) [
@@ -51,8 +51,8 @@ module _ (k : Tile) (cycles : Field ℤ) (y : ℕ) (row : (k.window.y0 ≤ y) ×
         ])
       ]
 
-  pub free_row : pos 0 ≡ sum_row k.scene.now.phase.width (cost_at k cycles) y
-  free_row = sym (sum_below-zeros k.scene.now.phase.width (λ x. cost_at k cycles x y) free_at)
+  pub free_row : pos 0 ≡ sum_row k.sheet.phase.now.width (cost_at k cycles) y
+  free_row = sym (sum_below-zeros k.sheet.phase.now.width (λ x. cost_at k cycles x y) free_at)
 
 -- ---- a departure more that is looked at
 tells_zero : (n : ℕ) → not (n == 0) ≡ false → n ≡ 0

@@ -21,3 +21,4 @@ pub mod PassLemmas
 pub mod SeamCosts
 pub mod SeamVerdictLemmas
 pub mod UniqueSeams
+pub mod CutLemmas

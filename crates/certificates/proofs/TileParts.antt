@@ -36,9 +36,9 @@ module _ (k : Tile) where
       let a = end_after e in
       from_ends (held_raster k) k.number k.window k.pixels e w (omega (arith, w, a, l, m))
 
-  pub in_raster : (e : Edge) → IsWithin k.window e.x e.y → end_x e ≤ k.window.x1 → end_y e ≤ k.window.y1 → IsTrue (is_edge k.scene.now.phase.width k.scene.now.phase.height e)
+  pub in_raster : (e : Edge) → IsWithin k.window e.x e.y → end_x e ≤ k.window.x1 → end_y e ≤ k.window.y1 → IsTrue (is_edge k.sheet.phase.now.width k.sheet.phase.now.height e)
   in_raster e w l m =
-      both_pixels k.scene.now.phase.width k.scene.now.phase.height e.x e.y (end_x e) (end_y e)
+      both_pixels k.sheet.phase.now.width k.sheet.phase.now.height e.x e.y (end_x e) (end_y e)
       (omega (arith, w, k.pixels.across)) (omega (arith, w, k.pixels.along)) (omega (arith, l, k.pixels.across)) (omega (arith, m, k.pixels.along))
 
   pub no_further : (e : Edge) → IsInner k e → (end_x e ≤ k.window.x1) × (end_y e ≤ k.window.y1)

@@ -74,9 +74,9 @@ module _ (r : Raster) (t : ℕ) (v : Window) (is : IsTileWindow r t v) (n : ℕ)
 
 pub sides_fit : (k : Tile) → Fits w64 (k.window.x1 - k.window.x0) × Fits w64 (k.window.y1 - k.window.y0) × Fits w64 ((k.window.x1 - k.window.x0) * (k.window.y1 - k.window.y0))
 sides_fit k =
-    let a : k.window.x1 - k.window.x0 ≤ 4096 = omega (arith, k.pixels.across, k.scene.now.wide) in
-    let b : k.window.y1 - k.window.y0 ≤ 4096 = omega (arith, k.pixels.along, k.scene.now.high) in
-    (record { fits = omega (arith, a) }, record { fits = omega (arith, b) }, record { fits = omega (arith, mul-le (k.window.x1 - k.window.x0) (k.window.y1 - k.window.y0) 4096 4096 a b) })
+    let a : k.window.x1 - k.window.x0 ≤ 65535 = omega (arith, k.pixels.across, k.sheet.phase.now.wide) in
+    let b : k.window.y1 - k.window.y0 ≤ 65535 = omega (arith, k.pixels.along, k.sheet.phase.now.high) in
+    (record { fits = omega (arith, a) }, record { fits = omega (arith, b) }, record { fits = omega (arith, mul-le (k.window.x1 - k.window.x0) (k.window.y1 - k.window.y0) 65535 65535 a b) })
 
 -- what the check of a result hands on: cycles for each pixel of its window, which lies in the raster, and knows its open pixels
 pub cycles_held : (s : Scene) (k : TileResult) (v : Window) (cycles : List ℤ) → IsWindowOf s.tiling k.tile v → v ≡ window_in s k → cycles ≡ k.cycles.items → HasShape s k → record { across : (v.x0 ≤ v.x1) × (v.x1 < 4096); along : (v.y0 ≤ v.y1) × (v.y1 < 4096); count : length cycles ≡ pixels_in v }

@@ -14,7 +14,7 @@ use Rattle.certificates.specs.Cuts.{raster_cut}
 use Rattle.certificates.specs.Verdicts.{IsFacesVerdict}
 
 abbrev pub held_raster : Tile → Raster
-held_raster tile = raster_cut tile.scene.now tile.cut
+held_raster tile = raster_cut tile.sheet tile.cut
 
 abbrev pub held_mask : Tile → Field Bool
 held_mask tile = open_at tile.mask.now

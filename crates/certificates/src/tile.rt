@@ -5,18 +5,18 @@ ghost use Rattle.raster_model.specs.Tiles.{IsTileWindow};
 use crate::cut::Cut;
 use crate::numbers::is_same;
 use crate::verdicts::TileVerdict;
-use raster_model::{Heights, Mask, Scene, Window};
+use raster_model::{Heights, Mask, Sheet, Window};
 
-/// A tile of a scene's raster under a mask. Only contracts read its cut and its number.
+/// A tile of a sheet's raster under a mask. Only contracts read its cut and its number.
 #[derive(Clone, Copy)]
 pub(crate) struct Tile<'a> {
-    pub(crate) scene: &'a Scene,
+    pub(crate) sheet: Sheet<'a>,
     pub(crate) mask: &'a Mask,
     pub(crate) cut: Cut,
     pub(crate) number: u32,
     pub(crate) window: Window,
-    pub(crate) ghost same_size: { (mask.now.width ≡ scene.now.phase.width) × (mask.now.height ≡ scene.now.phase.height) },
-    pub(crate) ghost pixels: { IsTileWindow (raster_cut scene.now cut) number window },
+    pub(crate) ghost same_size: { (mask.now.width ≡ sheet.phase.now.width) × (mask.now.height ≡ sheet.phase.now.height) },
+    pub(crate) ghost pixels: { IsTileWindow (raster_cut sheet cut) number window },
 }
 
 impl Tile<'_> {

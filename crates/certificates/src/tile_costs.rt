@@ -15,7 +15,7 @@ ghost use Rattle.std.specs.Prelude.{◌≡◌, ◌+◌, ◌*◌, ◌<◌, ◌≤
 
 use crate::edge_costs::edge_cost;
 use crate::tile::Tile;
-use raster_model::{Edge, Heights, MAX_CYCLE_COST, MAX_DEPARTURE, MAX_TILED_SIDE, departure};
+use raster_model::{Edge, Heights, MAX_CYCLE_COST, MAX_DEPARTURE, MAX_SIDE};
 
 impl Tile<'_> {
     /// What the edges that start at a pixel add to the tile's cost. If `unmasked` is true, the ends of these edges are known to
@@ -29,13 +29,13 @@ impl Tile<'_> {
     {
         let to_right = if x < self.window.x1 {
             let edge = Edge { x, y, down: false };
-            edge_cost(self.scene, self.mask, heights, edge, unmasked)
+            edge_cost(&self.sheet, self.mask, heights, edge, unmasked)
         } else {
             0
         };
         let to_lower = if y < self.window.y1 {
             let edge = Edge { x, y, down: true };
-            edge_cost(self.scene, self.mask, heights, edge, unmasked)
+            edge_cost(&self.sheet, self.mask, heights, edge, unmasked)
         } else {
             0
         };
@@ -53,7 +53,7 @@ impl Tile<'_> {
         let mut departs = false;
         for x in self.window.x0..self.window.x1 {
             let edge = Edge { x, y, down: false };
-            departs |= departure(self.scene, heights, edge) != 0;
+            departs |= self.sheet.departure(heights, edge) != 0;
         }
         !departs
     }
@@ -69,7 +69,7 @@ impl Tile<'_> {
         let mut departs = false;
         for x in self.window.x0..self.window.x1 + 1 {
             let edge = Edge { x, y, down: true };
-            departs |= departure(self.scene, heights, edge) != 0;
+            departs |= self.sheet.departure(heights, edge) != 0;
         }
         !departs
     }
@@ -80,7 +80,7 @@ impl Tile<'_> {
         requires row { (self.now.window.y0 ≤ y) × (y ≤ self.now.window.y1) }
         requires known { KnowsTile self.now (H.knows heights.now) }
         requires unmasked { IsTrue unmasked → AreRowsOpen self.now y }
-        ensures { IsTrue result → pos 0 ≡ sum_row self.now.scene.now.phase.width (cost_at self.now (H.cycles_at heights.now)) y }
+        ensures { IsTrue result → pos 0 ≡ sum_row self.now.sheet.phase.now.width (cost_at self.now (H.cycles_at heights.now)) y }
     {
         if !unmasked || !self.follows_right(heights, y) {
             return false;
@@ -125,8 +125,8 @@ impl Tile<'_> {
         requires unmasked { AreEndsOpen self.now x y }
         ensures { IsTrue result → cost_at self.now (H.cycles_at heights.now) x y ≡ pos 0 }
     {
-        let right = departure(self.scene, heights, Edge { x, y, down: false });
-        let lower = departure(self.scene, heights, Edge { x, y, down: true });
+        let right = self.sheet.departure(heights, Edge { x, y, down: false });
+        let lower = self.sheet.departure(heights, Edge { x, y, down: true });
         right == 0 && lower == 0
     }
 
@@ -169,8 +169,8 @@ impl Tile<'_> {
     fn row_cost<H: Heights>(&self, heights: &H, y: u32) -> u128
         requires row { (self.now.window.y0 ≤ y) × (y ≤ self.now.window.y1) }
         requires known { KnowsTile self.now (H.knows heights.now) }
-        ensures value { pos result ≡ sum_row self.now.scene.now.phase.width (cost_at self.now (H.cycles_at heights.now)) y }
-        ensures small { result ≤ 2 * MAX_CYCLE_COST * MAX_DEPARTURE * MAX_TILED_SIDE }
+        ensures value { pos result ≡ sum_row self.now.sheet.phase.now.width (cost_at self.now (H.cycles_at heights.now)) y }
+        ensures small { result ≤ 2 * MAX_CYCLE_COST * MAX_DEPARTURE * MAX_SIDE }
     {
         let unmasked = self.are_open_from(y);
         if self.is_free(heights, y, unmasked) {

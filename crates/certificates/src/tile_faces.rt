@@ -46,7 +46,7 @@ ghost use Rattle.std.specs.Prelude.{
 
 use crate::numbers::are_zeros;
 use crate::tile::Tile;
-use raster_model::{Edge, MAX_CYCLE_COST, MAX_TILED_SIDE, plain, stored_weight, weight};
+use raster_model::{Edge, MAX_CYCLE_COST, MAX_SIDE};
 
 impl Tile<'_> {
     /// The face of the tile's cell with the upper left corner (`x`, `y`).
@@ -113,14 +113,14 @@ impl Tile<'_> {
 
     /// The weight of an edge under the mask. If `unmasked` is true, both ends are known to be open.
     fn edge_weight(&self, edge: Edge, unmasked: bool) -> u16
-        requires is_edge { IsTrue (is_edge self.now.scene.now.phase.width self.now.scene.now.phase.height edge) }
+        requires is_edge { IsTrue (is_edge self.now.sheet.phase.now.width self.now.sheet.phase.now.height edge) }
         requires unmasked { IsTrue unmasked → IsTrue (has_open_ends (held_mask self.now) edge) }
         ensures { result ≡ masked_weight (held_raster self.now) (held_mask self.now) edge }
     {
         if unmasked {
-            stored_weight(self.scene, edge)
+            self.sheet.stored_weight(edge)
         } else {
-            weight(self.scene, self.mask, edge)
+            self.sheet.weight(self.mask, edge)
         }
     }
 
@@ -128,14 +128,14 @@ impl Tile<'_> {
     /// is true, both ends are known to be open.
     fn faces_fit(&self, faces: &[i64], edge: Edge, unmasked: bool) -> bool
         requires count { HasFaces self.now faces.now }
-        requires is_edge { IsTrue (is_edge self.now.scene.now.phase.width self.now.scene.now.phase.height edge) }
+        requires is_edge { IsTrue (is_edge self.now.sheet.phase.now.width self.now.sheet.phase.now.height edge) }
         requires unmasked { IsTrue unmasked → IsTrue (has_open_ends (held_mask self.now) edge) }
         ensures { IsTrue result ↔ FitAt self.now faces.now edge }
     {
         let difference = self.face_difference(faces, edge);
         difference == 0
             || difference.unsigned_abs()
-                <= u128::from(self.scene.terms.limit(self.edge_weight(edge, unmasked)))
+                <= u128::from(self.sheet.terms.limit(self.edge_weight(edge, unmasked)))
     }
 
     /// Whether an edge that starts in the tile is an inner edge whose faces do not fit. If `unmasked` is true, the
@@ -174,12 +174,12 @@ impl Tile<'_> {
     /// Whether two faces differ by no more than may those on the two sides of an edge. If `unmasked` is true, both ends are
     /// known to be open. Most faces are like their neighbours, and no weight is looked up between these.
     fn are_near(&self, a: i64, b: i64, edge: Edge, unmasked: bool) -> bool
-        requires is_edge { IsTrue (is_edge self.now.scene.now.phase.width self.now.scene.now.phase.height edge) }
+        requires is_edge { IsTrue (is_edge self.now.sheet.phase.now.width self.now.sheet.phase.now.height edge) }
         requires unmasked { IsTrue unmasked → IsTrue (has_open_ends (held_mask self.now) edge) }
-        ensures { IsTrue result → unsigned_abs (a -ℤ b) ≤ self.now.scene.now.terms.steep * masked_weight (held_raster self.now) (held_mask self.now) edge }
+        ensures { IsTrue result → unsigned_abs (a -ℤ b) ≤ self.now.sheet.terms.steep * masked_weight (held_raster self.now) (held_mask self.now) edge }
     {
         a == b
-            || a.abs_diff(b) <= u64::from(self.scene.terms.limit(self.edge_weight(edge, unmasked)))
+            || a.abs_diff(b) <= u64::from(self.sheet.terms.limit(self.edge_weight(edge, unmasked)))
     }
 
     /// Whether the faces fit at each right edge of row `y`. The tile has cells above and below the row. If `unmasked` is
@@ -306,14 +306,14 @@ impl Tile<'_> {
         if face == 0 {
             return 0;
         }
-        i128::from(face) * i128::from(plain::residue(self.scene, x, y))
+        i128::from(face) * i128::from(self.sheet.residue(x, y))
     }
 
     /// The sum of face times residue over the tile's cells.
     fn face_total(&self, faces: &[i64]) -> i128
         requires count { HasFaces self.now faces.now }
         ensures value { result ≡ total_at self.now faces.now }
-        ensures small { unsigned_abs result ≤ 2 ^ 63 * 2 ^ 24 }
+        ensures small { unsigned_abs result ≤ 2 ^ 63 * (MAX_SIDE * MAX_SIDE) }
     {
         let window = self.window;
         let mut total: i128 = 0;
@@ -328,12 +328,12 @@ impl Tile<'_> {
     /// By how much the faces on the two sides of an edge differ by more than its weight.
     fn over(&self, faces: &[i64], edge: Edge) -> u64
         requires count { HasFaces self.now faces.now }
-        requires is_edge { IsTrue (is_edge self.now.scene.now.phase.width self.now.scene.now.phase.height edge) }
+        requires is_edge { IsTrue (is_edge self.now.sheet.phase.now.width self.now.sheet.phase.now.height edge) }
         requires fit { FitAt self.now faces.now edge }
         ensures value { result ≡ over_weight (masked_weight (held_raster self.now) (held_mask self.now) edge) (difference_at self.now faces.now edge) }
         ensures small { result ≤ MAX_CYCLE_COST }
     {
-        let weight = weight(self.scene, self.mask, edge);
+        let weight = self.sheet.weight(self.mask, edge);
         let difference = self.face_difference(faces, edge).unsigned_abs() as u64;
         difference.saturating_sub(u64::from(weight))
     }
@@ -364,8 +364,8 @@ impl Tile<'_> {
         requires count { HasFaces self.now faces.now }
         requires row { (self.now.window.y0 ≤ y) × (y ≤ self.now.window.y1) }
         requires fit { AllFit self.now faces.now }
-        ensures value { pos result ≡ sum_row self.now.scene.now.phase.width (over_at self.now faces.now) y }
-        ensures small { result ≤ 2 * MAX_CYCLE_COST * MAX_TILED_SIDE }
+        ensures value { pos result ≡ sum_row self.now.sheet.phase.now.width (over_at self.now faces.now) y }
+        ensures small { result ≤ 2 * MAX_CYCLE_COST * MAX_SIDE }
     {
         let window = self.window;
         let mut over: u64 = 0;
@@ -381,9 +381,9 @@ impl Tile<'_> {
         requires count { HasFaces self.now faces.now }
         requires fit { AllFit self.now faces.now }
         ensures value { pos result ≡ over_in self.now faces.now }
-        ensures small { result ≤ 2 * MAX_CYCLE_COST * (MAX_TILED_SIDE * MAX_TILED_SIDE) }
+        ensures small { result ≤ 2 * MAX_CYCLE_COST * (MAX_SIDE * MAX_SIDE) }
     {
-        if self.scene.terms.steep == 1 {
+        if self.sheet.terms.steep == 1 {
             return 0;
         }
         let window = self.window;

@@ -7,8 +7,9 @@ ghost use Rattle.raster_model.specs.Heights.{KnowsOpen, KnowsOpenOf};
 ghost use Rattle.raster_model.specs.Masks.{open_at};
 ghost use Rattle.raster_model.specs.Raster.{lifted};
 ghost use Rattle.raster_model.specs.Scene.{raster_of};
+ghost use Rattle.raster_model.specs.Sheets.{sheet_raster};
 ghost use Rattle.raster_model.specs.Tiles.{tiles_of};
-ghost use Rattle.raster_model.specs.Whole.{IsCertifiedWhole, IsLeastOfAll, whole_cost, whole_of};
+ghost use Rattle.raster_model.specs.Whole.{IsCertifiedWhole, IsLeastOfAll, whole_cost};
 ghost use Rattle.std.specs.Prelude.{◌≡◌, ◌≢◌, ◌<◌, ◌↔◌, IfErr, IfOk, IsOk, IsTrue, pos};
 
 use crate::cut::Cut;
@@ -16,7 +17,7 @@ use crate::cycles::TileCycles;
 use crate::results::TileResult;
 use crate::tile::Tile;
 use crate::verdicts::TileVerdict;
-use raster_model::{Heights, Mask, Scene, Window};
+use raster_model::{Heights, Mask, Scene, Sheet, Window};
 
 /// Checks the faces that certify a surface in a tile: one for each of its cells, in row order. It judges first their
 /// number, then their differences at the inner edges in edge order, then the cost. It takes no memory and visits each
@@ -37,9 +38,9 @@ pub fn check_faces<H: Heights>(
 {
     let window = scene.tiling.window(tile);
     let tile = Tile {
-        scene,
+        sheet: scene.sheet(),
         mask,
-        cut: Cut::Tiles,
+        cut: Cut::Tiles(scene.tiling),
         number: tile,
         window,
     };
@@ -54,26 +55,26 @@ pub fn check_faces<H: Heights>(
 /// it, the answer is what the surface costs over all edges, and no congruent surface costs less; otherwise it is the first
 /// break. It takes no memory and visits each pixel a few times. (Costantini 1998.)
 pub fn check_whole<H: Heights>(
-    scene: &Scene,
+    sheet: &Sheet,
     mask: &Mask,
     heights: &H,
     faces: &[i64],
 ) -> Result<u128, TileVerdict>
-    requires same_size { (mask.now.width ≡ scene.now.phase.width) × (mask.now.height ≡ scene.now.phase.height) }
-    requires known { KnowsOpen (raster_of scene.now) (open_at mask.now) (H.knows heights.now) }
-    ensures certified { IfOk result (λ cost. IsCertifiedWhole (raster_of scene.now) (open_at mask.now) (lifted (raster_of scene.now) (H.cycles_at heights.now)) faces.now × (pos cost ≡ whole_cost (raster_of scene.now) (open_at mask.now) (lifted (raster_of scene.now) (H.cycles_at heights.now)))) }
-    ensures least { IfOk result (λ cost. IsLeastOfAll (raster_of scene.now) (open_at mask.now) (lifted (raster_of scene.now) (H.cycles_at heights.now))) }
-    ensures refused { IfErr result (λ verdict. IsFacesVerdict (whole_of (raster_of scene.now)) (open_at mask.now) 0 (lifted (raster_of scene.now) (H.cycles_at heights.now)) faces.now verdict × (verdict ≢ Good)) }
-    ensures good { IsOk result ↔ IsCertifiedTile (whole_of (raster_of scene.now)) (open_at mask.now) 0 (lifted (raster_of scene.now) (H.cycles_at heights.now)) faces.now }
+    requires same_size { (mask.now.width ≡ sheet.now.phase.now.width) × (mask.now.height ≡ sheet.now.phase.now.height) }
+    requires known { KnowsOpen (sheet_raster sheet.now) (open_at mask.now) (H.knows heights.now) }
+    ensures certified { IfOk result (λ cost. IsCertifiedWhole (sheet_raster sheet.now) (open_at mask.now) (lifted (sheet_raster sheet.now) (H.cycles_at heights.now)) faces.now × (pos cost ≡ whole_cost (sheet_raster sheet.now) (open_at mask.now) (lifted (sheet_raster sheet.now) (H.cycles_at heights.now)))) }
+    ensures least { IfOk result (λ cost. IsLeastOfAll (sheet_raster sheet.now) (open_at mask.now) (lifted (sheet_raster sheet.now) (H.cycles_at heights.now))) }
+    ensures refused { IfErr result (λ verdict. IsFacesVerdict (sheet_raster sheet.now) (open_at mask.now) 0 (lifted (sheet_raster sheet.now) (H.cycles_at heights.now)) faces.now verdict × (verdict ≢ Good)) }
+    ensures good { IsOk result ↔ IsCertifiedTile (sheet_raster sheet.now) (open_at mask.now) 0 (lifted (sheet_raster sheet.now) (H.cycles_at heights.now)) faces.now }
 {
     let window = Window {
         x0: 0,
         y0: 0,
-        x1: scene.phase.width - 1,
-        y1: scene.phase.height - 1,
+        x1: sheet.phase.width - 1,
+        y1: sheet.phase.height - 1,
     };
     let tile = Tile {
-        scene,
+        sheet: *sheet,
         mask,
         cut: Cut::Whole,
         number: 0,

@@ -1,13 +1,13 @@
 use Rattle.std.proofs.Common.{◌∙◌, sym}
 use Rattle.raster_model.specs.Masks.{open_at}
 use Rattle.raster_model.specs.Raster.{lifted}
-use Rattle.raster_model.specs.Scene.{raster_of}
+use Rattle.raster_model.specs.Sheets.{sheet_raster}
 use Rattle.certificates.proofs.EdgeCosts.{open_is, masked_is}
 use Rattle.certificates.proofs.edge_costs.edge_cost.Goals as goal
 
 pub are_ends_open-requires : goal.are_ends_open-requires
 are_ends_open-requires g c = record {
-  sides = rw (c.requires.same_size.0, c.requires.same_size.1) (c.args.scene.now.wide.1, c.args.scene.now.high.1);
+  sides = rw (c.requires.same_size.0, c.requires.same_size.1) (c.args.sheet.now.phase.now.wide.1, c.args.sheet.now.phase.now.high.1);
   is_edge = rw (c.requires.same_size.0, c.requires.same_size.1) c.requires.is_edge;
   unmasked = c.requires.unmasked;
 }
@@ -19,10 +19,10 @@ open_cost-requires g c =
 
 pub returns-then-are_ends_open-clause-value : goal.returns-then-are_ends_open-clause-value
 returns-then-are_ends_open-clause-value g c =
-    let r = raster_of c.args.scene.now in
+    let r = sheet_raster c.args.sheet.now in
     open_is r (open_at c.args.mask.now) (lifted r (g.H.Heights.cycles_at c.args.heights.now)) c.args.edge _ (sym c.are_ends_open.ensures ∙ c.if-are_ends_open.true) c.open_cost.ensures.value
 
 pub returns-else-are_ends_open-clause-value : goal.returns-else-are_ends_open-clause-value
 returns-else-are_ends_open-clause-value g c =
-    let r = raster_of c.args.scene.now in
+    let r = sheet_raster c.args.sheet.now in
     masked_is r (open_at c.args.mask.now) (lifted r (g.H.Heights.cycles_at c.args.heights.now)) c.args.edge (sym c.are_ends_open.ensures ∙ c.if-are_ends_open.false)

@@ -3,7 +3,7 @@ use Rattle.std.proofs.lemmas.Result.{IfOk-weaker}
 use Rattle.raster_model.specs.Cells.{IsCertifiedTile}
 use Rattle.raster_model.specs.Masks.{open_at}
 use Rattle.raster_model.specs.Raster.{lifted, tile_cost}
-use Rattle.raster_model.specs.Scene.{raster_of}
+use Rattle.raster_model.specs.Sheets.{sheet_raster}
 use Rattle.raster_model.specs.Whole.{IsCertifiedWhole, IsLeastOfAll, whole_cost, whole_of}
 use Rattle.raster_model.proofs.Windows.{whole_window}
 use Rattle.certificates.proofs.WholeLemmas.{checked_good, whole_checked, whole_least}
@@ -11,15 +11,15 @@ use Rattle.certificates.proofs.tiles.check_whole.Goals as goal
 
 pub invariant_of-tile : goal.invariant_of-tile
 invariant_of-tile g c =
-    let s = c.args.scene.now in
-    record { same_size = c.requires.same_size; pixels = whole_window (raster_of s) _ refl refl (omega (arith, s.wide)) (omega (arith, s.high)) }
+    let s = c.args.sheet.now in
+    record { same_size = c.requires.same_size; pixels = whole_window (sheet_raster s) _ refl refl (omega (arith, s.phase.now.wide)) (omega (arith, s.phase.now.high)) }
 
 pub check-requires : goal.check-requires
 check-requires g c = record { known = λ x y l m e o. c.requires.known x y l m o }
 
 pub returns-clause-certified : goal.returns-clause-certified
 returns-clause-certified g c =
-    let r = raster_of c.args.scene.now in
+    let r = sheet_raster c.args.sheet.now in
     let mask = open_at c.args.mask.now in
     let cycles = g.H.Heights.cycles_at c.args.heights.now in
     let faces = c.args.faces.now in
@@ -29,7 +29,7 @@ returns-clause-certified g c =
 
 pub returns-clause-least : goal.returns-clause-least
 returns-clause-least g c =
-    let r = raster_of c.args.scene.now in
+    let r = sheet_raster c.args.sheet.now in
     let mask = open_at c.args.mask.now in
     let cycles = g.H.Heights.cycles_at c.args.heights.now in
     let faces = c.args.faces.now in
@@ -42,7 +42,7 @@ returns-clause-refused g c = c.check.ensures.refused
 
 pub returns-clause-good : goal.returns-clause-good
 returns-clause-good g c =
-    let r = raster_of c.args.scene.now in
+    let r = sheet_raster c.args.sheet.now in
     let mask = open_at c.args.mask.now in
     let S = lifted r (g.H.Heights.cycles_at c.args.heights.now) in
     checked_good (whole_of r) mask 0 S c.args.faces.now (λ cost. pos cost ≡ tile_cost (whole_of r) mask 0 S) c.check.result c.check.ensures.certified c.check.ensures.refused

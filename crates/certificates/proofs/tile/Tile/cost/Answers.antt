@@ -16,7 +16,7 @@ loop-y-preserved g c =
     let k = c.args.self.now in
     let f = cost_at k (g.H.Heights.cycles_at c.args.heights.now) in
     record {
-      sum = adds c.loop-y.y c.loop-y.cost c.row_cost-cost.result (sum_row k.scene.now.phase.width f) c.loop-y.invariant.sum c.row_cost-cost.ensures.value;
+      sum = adds c.loop-y.y c.loop-y.cost c.row_cost-cost.result (sum_row k.sheet.phase.now.width f) c.loop-y.invariant.sum c.row_cost-cost.ensures.value;
       small = omega (arith, c.loop-y.invariant.small, c.row_cost-cost.ensures.small);
     }
 

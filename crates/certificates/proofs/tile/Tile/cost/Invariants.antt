@@ -5,6 +5,6 @@ use Rattle.certificates.proofs.tile.Tile.cost.Given as goal
 
 abbrev pub invariant-loop-y : goal.invariant-loop-y
 invariant-loop-y g l = record {
-  sum : pos l.cost ≡ sum_grid l.self.scene.now.phase.width l.y (cost_at l.self (g.H.Heights.cycles_at l.heights));
-  small : l.cost ≤ 2 * 1048560 * (2 ^ 49 + 1) * (4096 * l.y);
+  sum : pos l.cost ≡ sum_grid l.self.sheet.phase.now.width l.y (cost_at l.self (g.H.Heights.cycles_at l.heights));
+  small : l.cost ≤ 2 * 1048560 * (2 ^ 49 + 1) * (65535 * l.y);
 }

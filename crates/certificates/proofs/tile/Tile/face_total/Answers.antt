@@ -10,22 +10,22 @@ use Rattle.certificates.proofs.tile.Tile.face_total.Goals as goal
 pub loop-y-init : goal.loop-y-init
 loop-y-init c =
     let k = c.args.self.now in
-    let s = k.scene.now in
+    let s = k.sheet.phase.now in
     let v = k.window in
     let f = face_at (held_raster k) k.number c.args.faces.now in
     record {
-      sum = part_starts s.phase.width s.phase.height v.x0 v.x1 v.y0 v.y1 (product_at k c.args.faces.now) (cells_across_fit k f) (cells_along_fit k f) (product_outside k f);
+      sum = part_starts s.width s.height v.x0 v.x1 v.y0 v.y1 (product_at k c.args.faces.now) (cells_across_fit k f) (cells_along_fit k f) (product_outside k f);
       small = omega arith;
     }
 
 pub loop-x-init : goal.loop-x-init
 loop-x-init c =
     let k = c.args.self.now in
-    let s = k.scene.now in
+    let s = k.sheet.phase.now in
     let v = k.window in
     let f = face_at (held_raster k) k.number c.args.faces.now in
     record {
-      sum = row_starts s.phase.width s.phase.height v.x0 v.x1 v.y0 v.y1 (product_at k c.args.faces.now) (cells_across_fit k f) (cells_along_fit k f) (product_outside k f) c.loop-y.y _ (omega arith) c.loop-y.invariant.sum;
+      sum = row_starts s.width s.height v.x0 v.x1 v.y0 v.y1 (product_at k c.args.faces.now) (cells_across_fit k f) (cells_along_fit k f) (product_outside k f) c.loop-y.y _ (omega arith) c.loop-y.invariant.sum;
       small = omega (arith, c.loop-y.invariant.small);
     }
 
@@ -48,24 +48,24 @@ loop-x-preserved c =
 pub loop-y-preserved : goal.loop-y-preserved
 loop-y-preserved c =
     let k = c.args.self.now in
-    let s = k.scene.now in
+    let s = k.sheet.phase.now in
     let v = k.window in
     let f = face_at (held_raster k) k.number c.args.faces.now in
     record {
-      sum = row_more s.phase.width s.phase.height v.x0 v.x1 v.y0 v.y1 (product_at k c.args.faces.now) (cells_across_fit k f) (cells_along_fit k f) (product_outside k f) c.loop-x.x c.loop-y.y _ (omega arith) (omega arith) c.loop-x.invariant.sum;
-      small = omega (arith, c.loop-x.invariant.small, k.pixels.across, k.scene.now.wide);
+      sum = row_more s.width s.height v.x0 v.x1 v.y0 v.y1 (product_at k c.args.faces.now) (cells_across_fit k f) (cells_along_fit k f) (product_outside k f) c.loop-x.x c.loop-y.y _ (omega arith) (omega arith) c.loop-x.invariant.sum;
+      small = omega (arith, c.loop-x.invariant.small, k.pixels.across, k.sheet.phase.now.wide);
     }
 
 pub returns-clause-small : goal.returns-clause-small
 returns-clause-small c =
     let k = c.args.self.now in
-    omega (arith, c.loop-y.invariant.small, k.pixels.along, k.scene.now.high)
+    omega (arith, c.loop-y.invariant.small, k.pixels.along, k.sheet.phase.now.high)
 
 pub returns-clause-value : goal.returns-clause-value
 unfolding face_total
 returns-clause-value c =
     let k = c.args.self.now in
-    let s = k.scene.now in
+    let s = k.sheet.phase.now in
     let v = k.window in
     let f = face_at (held_raster k) k.number c.args.faces.now in
-    part_ends s.phase.width s.phase.height v.x0 v.x1 v.y0 v.y1 (product_at k c.args.faces.now) (cells_across_fit k f) (cells_along_fit k f) (product_outside k f) c.loop-y.y _ (omega arith) c.loop-y.invariant.sum
+    part_ends s.width s.height v.x0 v.x1 v.y0 v.y1 (product_at k c.args.faces.now) (cells_across_fit k f) (cells_along_fit k f) (product_outside k f) c.loop-y.y _ (omega arith) c.loop-y.invariant.sum

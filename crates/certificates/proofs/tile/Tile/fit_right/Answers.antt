@@ -12,7 +12,7 @@ are_near-requires c =
     let x = c.loop-x.x in
     let y = c.args.y in
     record {
-      is_edge = is_right k.scene.now.phase.width k.scene.now.phase.height x y (omega (arith, c.loop-x-test.true, k.pixels.across)) (omega (arith, c.requires.row, k.pixels.along));
+      is_edge = is_right k.sheet.phase.now.width k.sheet.phase.now.height x y (omega (arith, c.loop-x-test.true, k.pixels.across)) (omega (arith, c.requires.row, k.pixels.along));
       unmasked = λ t. right_open k x y (c.requires.unmasked t) (omega arith, omega arith, omega (arith, c.requires.row), omega (arith, c.requires.row)) c.loop-x-test.true;
     }
 

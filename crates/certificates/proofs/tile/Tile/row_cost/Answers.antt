@@ -42,5 +42,5 @@ returns-clause-value g c =
 pub returns-clause-small : goal.returns-clause-small
 returns-clause-small g c =
     let k = c.args.self.now in
-    let e : c.loop-x.x ≤ 4096 = omega (arith, c.loop-x.invariant.within, k.pixels.across, k.scene.now.wide) in
+    let e : c.loop-x.x ≤ 65535 = omega (arith, c.loop-x.invariant.within, k.pixels.across, k.sheet.phase.now.wide) in
     omega (arith, e, c.loop-x.invariant.small)

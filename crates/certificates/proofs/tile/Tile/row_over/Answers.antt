@@ -17,7 +17,7 @@ loop-x-init c =
 pub overflow_add-over : goal.overflow_add-over
 overflow_add-over c =
     let k = c.args.self.now in
-    let e : c.loop-x.x ≤ 4096 = omega (arith, c.loop-x-test.true, k.pixels.across, k.scene.now.wide) in
+    let e : c.loop-x.x ≤ 65535 = omega (arith, c.loop-x-test.true, k.pixels.across, k.sheet.phase.now.wide) in
     record { fits = omega (arith, e, c.loop-x.invariant.small, c.over_from-over.ensures.small) }
 
 pub loop-x-preserved : goal.loop-x-preserved
@@ -41,5 +41,5 @@ returns-clause-value c =
 pub returns-clause-small : goal.returns-clause-small
 returns-clause-small c =
     let k = c.args.self.now in
-    let e : c.loop-x.x ≤ 4096 = omega (arith, k.pixels.across, k.scene.now.wide) in
+    let e : c.loop-x.x ≤ 65535 = omega (arith, k.pixels.across, k.sheet.phase.now.wide) in
     omega (arith, e, c.loop-x.invariant.small)

@@ -21,7 +21,7 @@ loop-y-init c =
 pub overflow_add-over : goal.overflow_add-over
 overflow_add-over c =
     let k = c.args.self.now in
-    let e : c.loop-y.y ≤ 4096 = omega (arith, c.loop-y-test.true, k.pixels.along, k.scene.now.high) in
+    let e : c.loop-y.y ≤ 65535 = omega (arith, c.loop-y-test.true, k.pixels.along, k.sheet.phase.now.high) in
     record { fits = omega (arith, e, c.loop-y.invariant.small, c.row_over-over.ensures.small) }
 
 pub loop-y-preserved : goal.loop-y-preserved
@@ -29,7 +29,7 @@ loop-y-preserved c =
     let k = c.args.self.now in
     let f = over_at k c.args.faces.now in
     record {
-      sum = adds c.loop-y.y c.loop-y.over c.row_over-over.result (sum_row k.scene.now.phase.width f) c.loop-y.invariant.sum c.row_over-over.ensures.value;
+      sum = adds c.loop-y.y c.loop-y.over c.row_over-over.result (sum_row k.sheet.phase.now.width f) c.loop-y.invariant.sum c.row_over-over.ensures.value;
       small = omega (arith, c.loop-y.invariant.small, c.row_over-over.ensures.small);
     }
 
@@ -41,5 +41,5 @@ returns-clause-value c =
 pub returns-clause-small : goal.returns-clause-small
 returns-clause-small c =
     let k = c.args.self.now in
-    let e : c.loop-y.y ≤ 4096 = omega (arith, k.pixels.along, k.scene.now.high) in
+    let e : c.loop-y.y ≤ 65535 = omega (arith, k.pixels.along, k.sheet.phase.now.high) in
     omega (arith, e, c.loop-y.invariant.small)

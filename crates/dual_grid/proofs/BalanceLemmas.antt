@@ -11,13 +11,12 @@ use Rattle.raster_model.proofs.SumLemmas.{sum_grid-same, sum_grid-add}
 use Rattle.flow_network.specs.Nets.{Shape, State}
 use Rattle.flow_network.specs.Moves.{IsConserved, out_term, residual_out}
 use Rattle.flow_network.proofs.PushLemmas.{residual_out-same}
-use Rattle.raster_model.specs.Tiles.{width_of, height_of}
+use Rattle.raster_model.specs.Tiles.{width_of, height_of, IsRasterWindow}
 use Rattle.wrapped_gradient.specs.Windows.{IsCellOf, IsEdgeOf, round}
 use Rattle.wrapped_gradient.proofs.GradientLemmas.{right_edge_of, down_edge_of}
 use Rattle.dual_grid.specs.Nodes.{node_at, first_side, other_side, rights_of, downs_of, edges_of, edge_number, edge_of}
 use Rattle.dual_grid.specs.Starts.{supply_at, start_state}
 use Rattle.dual_grid.specs.Grids.{amount_of, arc_capacity, capacity_of, is_taken, leads_forth, residual_at, start_residual, window_shape, window_state}
-use Rattle.dual_grid.specs.Building.{IsRasterWindow}
 use Rattle.dual_grid.proofs.ArcLemmas.{kinds, place_is_arc, place_is_no_arc, place_tail}
 use Rattle.dual_grid.proofs.FlowLemmas.{amount_is, amount_parts, amounts_small}
 use Rattle.dual_grid.proofs.NodeLemmas.{first_right, first_down, other_right, other_down, node_below}

@@ -4,7 +4,7 @@ use Rattle.std.specs.Prelude.{ℤ, pos, negsuc, ◌+ℤ◌, ◌≤ℤ◌, ◌<�
 use Rattle.std.proofs.lemmas.Int.{ints}
 use Rattle.raster_model.specs.declared.scene.Scene.{Scene}
 use Rattle.raster_model.specs.declared.tiling.Window.{Window}
-use Rattle.raster_model.specs.Raster.{residue}
+use Rattle.raster_model.specs.Raster.{residue, Raster}
 use Rattle.raster_model.specs.Scene.{raster_of}
 use Rattle.raster_model.specs.Sums.{Field}
 use Rattle.raster_model.specs.Tiles.{tile_at, tiles_of, window_of}
@@ -27,9 +27,8 @@ pub start_stays : (g h : DualGrid) → HaveOneOrigin g h → grid_start h ≡ gr
 start_stays g h origin = ap₂ (λ (q : ℕ) (zs : List ℤ). start_residual h.window q (weight_in zs)) origin.steep origin.weights ∙ ap (λ (v : Window). start_residual v g.steep (weight_in g.weights.items)) origin.window
 
 -- pushes and raises leave a grid what it was made from
-pub grid_stays : (s : Scene) (v : Window) (unmasked : List Bool) (g h : DualGrid) → HaveOneOrigin g h → IsGridOf s v unmasked g → IsGridOf s v unmasked h
-grid_stays s v unmasked g h origin grid =
-    let r = raster_of s in
+pub grid_stays : (r : Raster) (v : Window) (unmasked : List Bool) (g h : DualGrid) → HaveOneOrigin g h → IsGridOf r v unmasked g → IsGridOf r v unmasked h
+grid_stays r v unmasked g h origin grid =
     let start = start_stays g h origin in
     let conserved = conserved-trans (grid_shape g) (start_state (grid_start g) (residue r) g.window) (grid_state g) (grid_state h) grid.conserved origin.conserved in
     let begun = subst (λ (b : ℕ → ℕ). IsConserved (grid_shape g) (start_state b (residue r) g.window) (grid_state h)) (sym start) conserved in
@@ -42,7 +41,7 @@ grid_stays s v unmasked g h origin grid =
     }
 
 -- an answer over the window of a tile of the scene is one for that tile
-pub scene_answer : (s : Scene) (mask : Field Bool) (t : ℕ) (k : Corrections) (faces : List ℤ) → t < tiles_of s.tiling → AreCertifiedOver s mask (window_of s.tiling t) k faces → AreCertifiedCorrections (raster_of s) mask t (window_of s.tiling t) k faces
+pub scene_answer : (s : Scene) (mask : Field Bool) (t : ℕ) (k : Corrections) (faces : List ℤ) → t < tiles_of s.tiling → AreCertifiedOver (raster_of s) mask (window_of s.tiling t) k faces → AreCertifiedCorrections (raster_of s) mask t (window_of s.tiling t) k faces
 scene_answer s mask t k faces exists answer = answer (tile_at s.tiling) (tiles_of s.tiling) t (scene_window s t (window_of s.tiling t) (window_of-pixels s.tiling t exists))
 
 -- residuals that differ from those of the start by at most the positive excesses are near them

@@ -8,7 +8,7 @@ use Rattle.raster_model.specs.declared.edge.Edge.{Edge}
 use Rattle.raster_model.specs.declared.tiling.Window.{Window}
 use Rattle.raster_model.specs.Sums.{Field, right_edge, down_edge}
 use Rattle.raster_model.specs.Raster.{Raster, residue, masked_weight}
-use Rattle.raster_model.specs.Tiles.{width_of, IsTileWindow}
+use Rattle.raster_model.specs.Tiles.{width_of, IsTileWindow, IsRasterWindow}
 use Rattle.flow_network.specs.Nets.{HasReducedCosts, HasNoExcess}
 use Rattle.flow_network.specs.Moves.{IsConserved}
 use Rattle.wrapped_gradient.specs.declared.corrections.Corrections.{Corrections}
@@ -18,7 +18,7 @@ use Rattle.wrapped_gradient.proofs.CorrectionLemmas.{greatest_of_least}
 use Rattle.wrapped_gradient.proofs.GradientLemmas.{right_edge_of, down_edge_of}
 use Rattle.wrapped_gradient.proofs.Places.{field_at}
 use Rattle.dual_grid.specs.Answers.{AreCertifiedCorrections, IsNearStart}
-use Rattle.dual_grid.specs.Building.{IsRasterWindow, AreFaces, AreEdgeFlows}
+use Rattle.dual_grid.specs.Building.{AreFaces, AreEdgeFlows}
 use Rattle.dual_grid.specs.Grids.{AreWeighed, arc_capacity, capacity_of, start_residual, window_shape, window_state}
 use Rattle.dual_grid.specs.Nodes.{cells_of, node_at, rights_of, downs_of, edges_of, edge_number, edge_of, first_side, other_side}
 use Rattle.dual_grid.specs.Starts.{supply_at, start_state, open_in_window, TellsMask}
@@ -94,9 +94,9 @@ module _ (r : Raster) (t : ℕ) (v : Window) (window : IsTileWindow r t v) (litt
       tight_answer r t v window unmasked mask tells (window_state v steep weight flow excess potential) k faces are (are_flows.right_count, are_flows.down_count) (greatest_of_least k (arc_capacity v) rights_small downs_small) cancels
       (λ e i. (tight e i).within) (λ e i. (tight e i).whole)
     where
-      by_scene : (q p w u : ℕ) (d k z : ℤ) → q ≡ p → w ≡ u → z ≡ k → IsTight q w d k → IsTight p u d z
-      by_scene q p w u d k z i j l t = rw (l, sym i, sym j) t
+      by_raster : (q p w u : ℕ) (d k z : ℤ) → q ≡ p → w ≡ u → z ≡ k → IsTight q w d k → IsTight p u d z
+      by_raster q p w u d k z i j l t = rw (l, sym i, sym j) t
 
       tight : (e : Edge) → IsEdgeOf v e → IsTight r.steep (masked_weight r (open_in_window v unmasked) e) (potential (other_side v e) -ℤ potential (first_side v e)) (correction_at v k e)
-      tight e i = by_scene steep r.steep (weight (edge_number v e)) (masked_weight r (open_in_window v unmasked) e) (potential (other_side v e) -ℤ potential (first_side v e)) (flow (edge_number v e)) (correction_at v k e) told (weighed e i) (correction_is e i)
+      tight e i = by_raster steep r.steep (weight (edge_number v e)) (masked_weight r (open_in_window v unmasked) e) (potential (other_side v e) -ℤ potential (first_side v e)) (flow (edge_number v e)) (correction_at v k e) told (weighed e i) (correction_is e i)
           (flow_is_tight v steep some weight flow excess potential kept near e i (within (edge_number v e)))

@@ -7,7 +7,6 @@ use Rattle.raster_model.specs.declared.edge.Edge.{Edge}
 use Rattle.raster_model.specs.declared.tiling.Window.{Window}
 use Rattle.raster_model.specs.Sums.{down_edge, right_edge}
 use Rattle.raster_model.specs.Raster.{masked_weight}
-use Rattle.raster_model.specs.Scene.{raster_of}
 use Rattle.raster_model.specs.Tilings.{tiled_by}
 use Rattle.raster_model.specs.Tiles.{IsTileWindow}
 use Rattle.flow_network.specs.Nets.{State}
@@ -47,19 +46,19 @@ module _ (p : Problem) (k : Corrections) (faces : List ℤ) (shape : HaveShape p
   turned : (a b : ℤ) → neg_ℤ b -ℤ neg_ℤ a ≡ a -ℤ b
   turned a b = omega (arith, ints)
 
-  -- by the scene's steepness and the weight under its mask
+  -- by the raster's steepness and the weight under its mask
   told : (a b z k : ℤ) (m n q : ℕ) → IsTight q (unsigned_abs z) (a -ℤ b) k → q ≡ m → z ≡ pos n → IsTight m n (neg_ℤ b -ℤ neg_ℤ a) k
   told a b z k m n q i e j = rw (turned a b) (rw (e, j) at i)
 
   pub checked_answer : IsAnsweredBy p k faces
-  checked_answer s w unmasked mask problem tells tiles count t window =
+  checked_answer raster w unmasked mask problem tells tiles count t window =
       let v = p.window in
-      let r = tiled_by (raster_of s) tiles count in
+      let r = tiled_by raster tiles count in
       let f = turned_state faces in
       subst (λ (w : Window). AreCertifiedCorrections r mask t w k faces) problem.window
       (tight_answer r t v (subst (λ (w : Window). IsTileWindow r t w) (sym problem.window) window) unmasked mask (subst (λ (w : Window). TellsMask w unmasked mask) (sym problem.window) tells) f k faces (turned_faces faces (cells_of v) shape.1) shape.0 (greatest_of_least k (cells_of v + 1) rights_small downs_small)
       (λ x y i. cancelled x y i ∙ ap neg_ℤ (problem.residues x y i))
       (λ e i. (here e i).within) (λ e i. (here e i).whole))
     where
-      here : (e : Edge) → IsEdgeOf p.window e → IsTight (raster_of s).steep (masked_weight (raster_of s) (open_in_window p.window unmasked) e) (neg_ℤ (face_of faces (other_side p.window e)) -ℤ neg_ℤ (face_of faces (first_side p.window e))) (correction_at p.window k e)
-      here e i = told (face_of faces (first_side p.window e)) (face_of faces (other_side p.window e)) (weight_at p e) (correction_at p.window k e) (raster_of s).steep (masked_weight (raster_of s) (open_in_window p.window unmasked) e) p.steep (tight e i) problem.steep (problem.weights e i)
+      here : (e : Edge) → IsEdgeOf p.window e → IsTight raster.steep (masked_weight raster (open_in_window p.window unmasked) e) (neg_ℤ (face_of faces (other_side p.window e)) -ℤ neg_ℤ (face_of faces (first_side p.window e))) (correction_at p.window k e)
+      here e i = told (face_of faces (first_side p.window e)) (face_of faces (other_side p.window e)) (weight_at p e) (correction_at p.window k e) raster.steep (masked_weight raster (open_in_window p.window unmasked) e) p.steep (tight e i) problem.steep (problem.weights e i)

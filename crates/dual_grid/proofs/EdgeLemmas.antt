@@ -1,13 +1,12 @@
 -- The numbers of a window's edges.
 use Rattle.std.proofs.Common.{◌≡◌, ℕ, zero, suc, ◌+◌, ◌-◌, ◌*◌, ◌/◌, ◌%◌, ◌<◌, ◌≤◌, ◌∙◌, sym, ap, ap₂, arith, Bool, true, false}
-use Rattle.std.proofs.lemmas.Nat.{div-mul-add, mod-mul-add, mul-le}
+use Rattle.std.proofs.lemmas.Nat.{div-mul-add, mod-mul-add}
 use Rattle.raster_model.specs.declared.edge.Edge.{Edge}
 use Rattle.raster_model.specs.declared.tiling.Window.{Window}
 use Rattle.raster_model.specs.Sums.{right_edge, down_edge}
-use Rattle.raster_model.specs.Tiles.{width_of, height_of}
+use Rattle.raster_model.specs.Tiles.{width_of, height_of, IsRasterWindow}
 use Rattle.wrapped_gradient.specs.Windows.{IsEdgeOf}
 use Rattle.wrapped_gradient.proofs.Places.{place_within}
-use Rattle.dual_grid.specs.Building.{IsRasterWindow}
 use Rattle.dual_grid.specs.Grids.{arc_capacity}
 use Rattle.dual_grid.specs.Nodes.{cells_of, rights_of, downs_of, edges_of, edge_number}
 
@@ -80,19 +79,20 @@ same_number v e f i j h = go e.x e.y e.down f.x f.y f.down i j h
     go x y false u w true i j h = let p = right_number_below v x y i in absurd (omega (arith, p, h))
 
 -- the number of edges and of cells of the greatest window
-pub few_edges : (v : Window) → IsRasterWindow v → edges_of v ≤ 33546240
-few_edges v s =
-    let a = s.across in
-    let b = s.along in
-    let p = mul-le (width_of v - 1) (height_of v) 4095 4096 (omega (arith, a)) (omega (arith, b)) in
-    let q = mul-le (width_of v) (height_of v - 1) 4096 4095 (omega (arith, a)) (omega (arith, b)) in
-    omega (arith, p, q)
+pub few_edges : (v : Window) → IsRasterWindow v → edges_of v ≤ 536870910
+few_edges v s = few (v.x1 - v.x0) (v.y1 - v.y0) s.few
+  where
+    few : (a b : ℕ) → (a + 1) * (b + 1) ≤ 268435456 → (a + 1 - 1) * (b + 1) + (a + 1) * (b + 1 - 1) ≤ 536870910
+    few a b l =
+        let p : a + 1 - 1 ≡ a = omega arith in
+        let q : b + 1 - 1 ≡ b = omega arith in
+        rw (p, q) (omega (arith, l))
 
-pub few_cells : (v : Window) → IsRasterWindow v → cells_of v ≤ 16769025
-few_cells v s =
-    let a = s.across in
-    let b = s.along in
-    mul-le (v.y1 - v.y0) (v.x1 - v.x0) 4095 4095 (omega (arith, b)) (omega (arith, a))
+pub few_cells : (v : Window) → IsRasterWindow v → cells_of v ≤ 268435455
+few_cells v s = few (v.x1 - v.x0) (v.y1 - v.y0) s.few
+  where
+    few : (a b : ℕ) → (a + 1) * (b + 1) ≤ 268435456 → b * a ≤ 268435455
+    few a b l = omega (arith, l)
 
-pub capacity_few : (v : Window) → IsRasterWindow v → arc_capacity v ≤ 16777216
+pub capacity_few : (v : Window) → IsRasterWindow v → arc_capacity v ≤ 268435456
 capacity_few v s = omega (arith, few_cells v s)

@@ -369,12 +369,12 @@ module _ (most steep w k m : ℕ) (q : ℤ) (below : k < 8) (taken : is_taken st
         | inr (inr f) ↦ (let u = steep_taken steep w f in rw u (split_pushed most steep w f q (rw u at l) m k (eight_places k below) room idle).0)
       ]
 
--- no capacity is above 16777217
-pub capacity_small : (most steep w : ℕ) → most ≤ 16777216 → capacity_of most steep w ≤ 16777217
+-- no capacity is above 268435457
+pub capacity_small : (most steep w : ℕ) → most ≤ 268435456 → capacity_of most steep w ≤ 268435457
 capacity_small most steep w l = elim (cases_Bool (is_split steep w)) [ inl t ↦ rw t (omega (arith, l)) | inr t ↦ rw t (omega (arith, l)) ]
 
 -- no residual is above twice the capacity
-pub residual_small : (most steep w : ℕ) (q : ℤ) (k : ℕ) → most ≤ 16777216 → unsigned_abs q ≤ 16777217 → residual_at most steep w q k ≤ 33554433
+pub residual_small : (most steep w : ℕ) (q : ℤ) (k : ℕ) → most ≤ 268435456 → unsigned_abs q ≤ 268435457 → residual_at most steep w q k ≤ 536870913
 residual_small most steep w q k few l =
     elim (cases_Bool (w == 0)) [
       | inl y ↦ rw y (free_small (leads_forth k))
@@ -384,23 +384,23 @@ residual_small most steep w q k few l =
       ]
     ]
   where
-    amount_small : (z : ℤ) → z ≤ℤ pos 33554433 → amount_of z ≤ 33554433
+    amount_small : (z : ℤ) → z ≤ℤ pos 536870913 → amount_of z ≤ 536870913
     amount_small z h = elim (amount_parts z).1 [ inl e ↦ omega (arith, e) | inr e ↦ (let p = (amount_parts z).0 in omega (arith, ints, p, e, h)) ]
 
-    free_small : (b : Bool) → amount_of (pos most -ℤ (if b then q else neg_ℤ q)) ≤ 33554433
+    free_small : (b : Bool) → amount_of (pos most -ℤ (if b then q else neg_ℤ q)) ≤ 536870913
     free_small true = amount_small (pos most -ℤ q) (omega (arith, ints, few, l))
     free_small false = amount_small (pos most -ℤ neg_ℤ q) (omega (arith, ints, few, l))
 
-    carried_small : (b : Bool) → (if b then amount_of q else amount_of (neg_ℤ q)) ≤ 16777217
-    carried_small true = (amounts_small 16777217 q l).0
-    carried_small false = (amounts_small 16777217 q l).1
+    carried_small : (b : Bool) → (if b then amount_of q else amount_of (neg_ℤ q)) ≤ 268435457
+    carried_small true = (amounts_small 268435457 q l).0
+    carried_small false = (amounts_small 268435457 q l).1
 
-    split_small : (b e : Bool) (n : ℕ) → n ≤ 16777217 → (if b then (if e then 1 - n else 1 - (1 - n)) else if e then most - (n - 1) else n - 1) ≤ 33554433
+    split_small : (b e : Bool) (n : ℕ) → n ≤ 268435457 → (if b then (if e then 1 - n else 1 - (1 - n)) else if e then most - (n - 1) else n - 1) ≤ 536870913
     split_small true true n h = omega (arith, h)
     split_small true false n h = omega (arith, h)
     split_small false true n h = omega (arith, few, h)
     split_small false false n h = omega (arith, h)
 
-    plain_small : (e : Bool) (n : ℕ) → n ≤ 16777217 → (if e then most - n else n) ≤ 33554433
+    plain_small : (e : Bool) (n : ℕ) → n ≤ 268435457 → (if e then most - n else n) ≤ 536870913
     plain_small true n h = omega (arith, few, h)
     plain_small false n h = omega (arith, h)

@@ -24,4 +24,5 @@ pub mod ListingLemmas
 pub mod CheckLemmas
 pub mod CheckedAnswers
 pub mod CallerLemmas
+pub mod SheetLemmas
 mod OnExamples

@@ -2,10 +2,8 @@
 use Rattle.std.proofs.Common.{◌≡◌, ℕ, ◌-◌, ◌*◌, ◌∙◌, ap, arith, List, Bool, true, false}
 use Rattle.std.specs.Prelude.{ℤ, pos, slice_index_or}
 use Rattle.raster_model.specs.declared.edge.Edge.{Edge}
-use Rattle.raster_model.specs.declared.scene.Scene.{Scene}
 use Rattle.raster_model.specs.declared.tiling.Window.{Window}
-use Rattle.raster_model.specs.Raster.{masked_weight}
-use Rattle.raster_model.specs.Scene.{raster_of}
+use Rattle.raster_model.specs.Raster.{masked_weight, Raster}
 use Rattle.raster_model.specs.Sums.{Field}
 use Rattle.wrapped_gradient.specs.Rows.{AreInRows}
 use Rattle.raster_model.specs.Tiles.{width_of, height_of}
@@ -17,19 +15,19 @@ use Rattle.dual_grid.specs.Problems.{down_edge_weights, right_edge_weights}
 use Rattle.dual_grid.specs.Starts.{open_in_window}
 use Rattle.dual_grid.proofs.NodeLemmas.{cell_below, node_inside}
 
-pub weights_listed : (s : Scene) (v : Window) (unmasked : List Bool) (right down : List ℤ) → AreInRows (right_edge_weights s v unmasked) v.x0 v.y0 (width_of v - 1) ((width_of v - 1) * height_of v) right → AreInRows (down_edge_weights s v unmasked) v.x0 v.y0 (width_of v) (width_of v * (height_of v - 1)) down → (e : Edge) → IsEdgeOf v e → edge_value v right down e ≡ pos (masked_weight (raster_of s) (open_in_window v unmasked) e)
-weights_listed s v unmasked right down rights downs e i = go e.x e.y e.down i
+pub weights_listed : (r : Raster) (v : Window) (unmasked : List Bool) (right down : List ℤ) → AreInRows (right_edge_weights r v unmasked) v.x0 v.y0 (width_of v - 1) ((width_of v - 1) * height_of v) right → AreInRows (down_edge_weights r v unmasked) v.x0 v.y0 (width_of v) (width_of v * (height_of v - 1)) down → (e : Edge) → IsEdgeOf v e → edge_value v right down e ≡ pos (masked_weight r (open_in_window v unmasked) e)
+weights_listed r v unmasked right down rights downs e i = go e.x e.y e.down i
   where
-    go : (x y : ℕ) (d : Bool) → IsEdgeOf v (record { x = x; y = y; down = d }) → edge_value v right down (record { x = x; y = y; down = d }) ≡ pos (masked_weight (raster_of s) (open_in_window v unmasked) (record { x = x; y = y; down = d }))
+    go : (x y : ℕ) (d : Bool) → IsEdgeOf v (record { x = x; y = y; down = d }) → edge_value v right down (record { x = x; y = y; down = d }) ≡ pos (masked_weight r (open_in_window v unmasked) (record { x = x; y = y; down = d }))
     go x y false i =
         let a = i.start in
         let b = i.end in
-        rows_tell (right_edge_weights s v unmasked) v.x0 v.y0 (width_of v - 1) ((width_of v - 1) * height_of v) x y right rights a.0 (omega (arith, a, b)) a.2
+        rows_tell (right_edge_weights r v unmasked) v.x0 v.y0 (width_of v - 1) ((width_of v - 1) * height_of v) x y right rights a.0 (omega (arith, a, b)) a.2
         (place_within (width_of v - 1) (height_of v) (y - v.y0) (x - v.x0) (omega (arith, a)) (omega (arith, a, b)))
     go x y true i =
         let a = i.start in
         let b = i.end in
-        rows_tell (down_edge_weights s v unmasked) v.x0 v.y0 (width_of v) (width_of v * (height_of v - 1)) x y down downs a.0 (omega (arith, a)) a.2
+        rows_tell (down_edge_weights r v unmasked) v.x0 v.y0 (width_of v) (width_of v * (height_of v - 1)) x y down downs a.0 (omega (arith, a)) a.2
         (place_within (width_of v) (height_of v - 1) (y - v.y0) (x - v.x0) (omega (arith, a, b)) (omega (arith, a)))
 
 pub residues_listed : (f : Field ℤ) (v : Window) (zs : List ℤ) (x y : ℕ) → AreInRows f v.x0 v.y0 (v.x1 - v.x0) (cells_of v) zs → IsCellOf v x y → slice_index_or zs (node_at v x y) (pos 0) ≡ f x y

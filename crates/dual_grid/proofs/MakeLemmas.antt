@@ -6,11 +6,10 @@ use Rattle.std.proofs.lemmas.Int.{ints}
 use Rattle.std.proofs.lemmas.Nat.{mul-le}
 use Rattle.std.proofs.lemmas.List.{get_or_append_left, get_or-append-add, get_or-append_right, get_or_past, get_or-replicate, length-replicate}
 use Rattle.raster_model.specs.declared.edge.Edge.{Edge}
-use Rattle.raster_model.specs.declared.scene.Scene.{Scene}
 use Rattle.raster_model.specs.declared.tiling.Window.{Window}
-use Rattle.raster_model.specs.Scene.{raster_of}
 use Rattle.raster_model.specs.Sums.{Field}
-use Rattle.raster_model.specs.Tiles.{width_of, height_of}
+use Rattle.raster_model.specs.Tiles.{width_of, height_of, IsRasterWindow}
+use Rattle.raster_model.specs.Raster.{Raster}
 use Rattle.flow_network.specs.Nets.{IsArc, HasReducedCosts, tail_of}
 use Rattle.flow_network.specs.Moves.{IsConserved, out_term, residual_out}
 use Rattle.flow_network.specs.Growing.{supply_sizes, supply_sum, total_residual}
@@ -19,7 +18,7 @@ use Rattle.flow_network.proofs.CallerLemmas.{conserved-still, sum-not_below, ter
 use Rattle.flow_network.proofs.RoomLemmas.{term-not_below}
 use Rattle.wrapped_gradient.specs.Rows.{AreInRows}
 use Rattle.wrapped_gradient.specs.Windows.{IsEdgeOf, edge_value}
-use Rattle.dual_grid.specs.Building.{AreCellSupplies, IsRasterWindow}
+use Rattle.dual_grid.specs.Building.{AreCellSupplies}
 use Rattle.dual_grid.specs.Grids.{AreWeighed, HasSmallCosts, amount_of, arc_capacity, carried, cost_in_place, cost_of_place, residual_at, start_residual}
 use Rattle.dual_grid.specs.Layout.{AreWithinCapacity, AreWithinReach, FitGrid, flat_state_by, number_or_zero, shape_by, state_by, weight_in}
 use Rattle.dual_grid.specs.Nodes.{cells_of, edges_of, edge_number}
@@ -34,7 +33,7 @@ use Rattle.sums_and_lists.specs.Sums.{sum_below, where_true}
 use Rattle.sums_and_lists.proofs.SumLemmas.{sum_below-none, sum_below-more}
 
 -- ---- weights in one list, the right edges first
-module _ (s : Scene) (v : Window) (unmasked : List Bool) (right down : List ℤ) (rights : AreInRows (right_edge_weights s v unmasked) v.x0 v.y0 (width_of v - 1) ((width_of v - 1) * height_of v) right) (downs : AreInRows (down_edge_weights s v unmasked) v.x0 v.y0 (width_of v) (width_of v * (height_of v - 1)) down) where
+module _ (r : Raster) (v : Window) (unmasked : List Bool) (right down : List ℤ) (rights : AreInRows (right_edge_weights r v unmasked) v.x0 v.y0 (width_of v - 1) ((width_of v - 1) * height_of v) right) (downs : AreInRows (down_edge_weights r v unmasked) v.x0 v.y0 (width_of v) (width_of v * (height_of v - 1)) down) where
   joined_at : (e : Edge) → IsEdgeOf v e → number_or_zero (right ++ down) (edge_number v e) ≡ edge_value v right down e
   joined_at e i = go e.x e.y e.down i
     where
@@ -44,8 +43,8 @@ module _ (s : Scene) (v : Window) (unmasked : List Bool) (right down : List ℤ)
           ap (λ (n : ℕ). number_or_zero (right ++ down) (n + ((y - v.y0) * width_of v + (x - v.x0)))) (sym rights.0)
           ∙ get_or-append-add right down ((y - v.y0) * width_of v + (x - v.x0)) (pos 0)
 
-  pub joined_weighed : AreWeighed (raster_of s) (open_in_window v unmasked) v (weight_in (right ++ down))
-  joined_weighed e i = ap unsigned_abs (joined_at e i ∙ weights_listed s v unmasked right down rights downs e i)
+  pub joined_weighed : AreWeighed r (open_in_window v unmasked) v (weight_in (right ++ down))
+  joined_weighed e i = ap unsigned_abs (joined_at e i ∙ weights_listed r v unmasked right down rights downs e i)
 
 pub joined_light : (right down : List ℤ) → ((k : ℕ) → unsigned_abs (get_or right k (pos 0)) ≤ 65535) → ((k : ℕ) → unsigned_abs (get_or down k (pos 0)) ≤ 65535) → (n : ℕ) → unsigned_abs (number_or_zero (right ++ down) n) ≤ 65535
 joined_light right down a b n =
@@ -88,29 +87,29 @@ module _ (v : Window) (steep : ℕ) (gentle : steep ≤ 16) (weights : List ℤ)
 
 -- ---- whatever flows within the capacities
 module _ (v : Window) (little : IsRasterWindow v) (steep : ℕ) (weights flows excesses : List ℤ) (within : AreWithinCapacity v steep weights flows) where
-  residual_few : (a : ℕ) → (flat_state_by v steep weights flows excesses).residual a ≤ 33554433
+  residual_few : (a : ℕ) → (flat_state_by v steep weights flows excesses).residual a ≤ 536870913
   residual_few a = residual_small (arc_capacity v) steep (weight_in weights (a / 8)) (number_or_zero flows (a / 8)) (a % 8) (capacity_few v little) (within_all v little steep weights flows within (a / 8))
 
-  residual_term : (a : ℕ) → where_true ((shape_by v steep weights).is_arc a) (pos ((flat_state_by v steep weights flows excesses).residual a)) ≤ℤ pos 33554433
+  residual_term : (a : ℕ) → where_true ((shape_by v steep weights).is_arc a) (pos ((flat_state_by v steep weights flows excesses).residual a)) ≤ℤ pos 536870913
   residual_term a =
       elim (cases_Bool ((shape_by v steep weights).is_arc a)) [
         | inl t ↦ (let l = residual_few a in rw t (omega (arith, ints, l)))
         | inr t ↦ rw t (omega (arith, ints))
       ]
 
-  both-le : (t u : Bool) (n : ℕ) → where_true t (pos n) ≤ℤ pos 33554433 → where_true (t && u) (pos n) ≤ℤ pos 33554433
+  both-le : (t u : Bool) (n : ℕ) → where_true t (pos n) ≤ℤ pos 536870913 → where_true (t && u) (pos n) ≤ℤ pos 536870913
   both-le true true n l = l
   both-le true false n l = omega (arith, ints)
   both-le false u n l = l
 
-  few_arcs : edges_of v * 8 * 33554433 ≤ 9005000499855360
+  few_arcs : edges_of v * 8 * 536870913 ≤ 2305843004918726640
   few_arcs = let l = few_edges v little in omega (arith, l)
 
-  total_small : total_residual (shape_by v steep weights) (flat_state_by v steep weights flows excesses) ≤ℤ pos (edges_of v * 8 * 33554433)
-  total_small = sum_bounded (edges_of v * 8) 33554433 (λ a. where_true ((shape_by v steep weights).is_arc a) (pos ((flat_state_by v steep weights flows excesses).residual a))) (λ a l. residual_term a)
+  total_small : total_residual (shape_by v steep weights) (flat_state_by v steep weights flows excesses) ≤ℤ pos (edges_of v * 8 * 536870913)
+  total_small = sum_bounded (edges_of v * 8) 536870913 (λ a. where_true ((shape_by v steep weights).is_arc a) (pos ((flat_state_by v steep weights flows excesses).residual a))) (λ a l. residual_term a)
 
-  out_small : (u : ℕ) → residual_out (shape_by v steep weights) (flat_state_by v steep weights flows excesses) u ≤ℤ pos (edges_of v * 8 * 33554433)
-  out_small u = sum_bounded (edges_of v * 8) 33554433 (out_term (shape_by v steep weights) (flat_state_by v steep weights flows excesses) u) (λ a l. both-le ((shape_by v steep weights).is_arc a) (tail_of (shape_by v steep weights) a == u) ((flat_state_by v steep weights flows excesses).residual a) (residual_term a))
+  out_small : (u : ℕ) → residual_out (shape_by v steep weights) (flat_state_by v steep weights flows excesses) u ≤ℤ pos (edges_of v * 8 * 536870913)
+  out_small u = sum_bounded (edges_of v * 8) 536870913 (out_term (shape_by v steep weights) (flat_state_by v steep weights flows excesses) u) (λ a l. both-le ((shape_by v steep weights).is_arc a) (tail_of (shape_by v steep weights) a == u) ((flat_state_by v steep weights flows excesses).residual a) (residual_term a))
 
   out_low : (u : ℕ) → pos 0 ≤ℤ residual_out (shape_by v steep weights) (flat_state_by v steep weights flows excesses) u
   out_low u = sum-not_below (edges_of v * 8) (out_term (shape_by v steep weights) (flat_state_by v steep weights flows excesses) u) (λ a l. term-not_below ((shape_by v steep weights).is_arc a && (tail_of (shape_by v steep weights) a == u)) ((flat_state_by v steep weights flows excesses).residual a))
@@ -179,7 +178,7 @@ module _ (v : Window) (little : IsRasterWindow v) (steep : ℕ) (gentle : steep 
   }
 
   -- ---- the room for pushes
-  excess_small : supply_sizes excesses ≤ℤ pos (2 * cells_of v) → (u : ℕ) → u < cells_of v + 1 → unsigned_abs (number_or_zero excesses u) ≤ 33538050
+  excess_small : supply_sizes excesses ≤ℤ pos (2 * cells_of v) → (u : ℕ) → u < cells_of v + 1 → unsigned_abs (number_or_zero excesses u) ≤ 536870910
   excess_small sizes u l =
       let one = term-le (length excesses) u (λ k. pos (unsigned_abs (get_or excesses k (pos 0)))) (omega (arith, fit.by_node, l)) (λ k m. omega (arith, ints)) in
       let few = few_cells v little in

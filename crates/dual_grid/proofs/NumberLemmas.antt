@@ -6,11 +6,10 @@ use Rattle.std.proofs.lemmas.Nat.{div-add-mod', div-mul-add, mod-mul-add, div_be
 use Rattle.raster_model.specs.declared.edge.Edge.{Edge}
 use Rattle.raster_model.specs.declared.tiling.Window.{Window}
 use Rattle.raster_model.specs.Sums.{right_edge, down_edge}
-use Rattle.raster_model.specs.Tiles.{width_of, height_of}
+use Rattle.raster_model.specs.Tiles.{width_of, height_of, IsRasterWindow}
 use Rattle.wrapped_gradient.specs.Windows.{IsEdgeOf}
 use Rattle.wrapped_gradient.proofs.GradientLemmas.{down_edge_of, right_edge_of}
 use Rattle.wrapped_gradient.proofs.Places.{place_within}
-use Rattle.dual_grid.specs.Building.{IsRasterWindow}
 use Rattle.dual_grid.specs.Nodes.{cells_of, rights_of, downs_of, edges_of, edge_number, edge_of, first_side, other_side}
 use Rattle.dual_grid.proofs.EdgeLemmas.{has_columns, right_number_below}
 use Rattle.dual_grid.proofs.NodeLemmas.{node_inside, node_outside, above_inside, above_outside, left_inside, left_outside, first_right, first_down, other_right, other_down}

@@ -8,6 +8,7 @@ use Rattle.std.proofs.lemmas.List.{get_or-set_other, get_or-set_same}
 use Rattle.std.proofs.Math.ListN.{set}
 use Rattle.std.proofs.lemmas.Nat.{div-add-mod', div-mul-add, mod-mul-add, mod_below}
 use Rattle.raster_model.specs.declared.tiling.Window.{Window}
+use Rattle.raster_model.specs.Tiles.{IsRasterWindow}
 use Rattle.flow_network.specs.Nets.{IsArc, HasReducedCosts, reduced_cost, tail_of}
 use Rattle.flow_network.specs.Moves.{IsPushed}
 use Rattle.flow_network.proofs.CallerLemmas.{pushed-at}
@@ -15,7 +16,6 @@ use Rattle.dual_grid.specs.Layout.{AreWithinCapacity, FitGrid, number_or_zero, s
 use Rattle.dual_grid.specs.Grids.{arc_capacity, capacity_of, cost_in_place, head_at, is_taken, leads_forth, residual_at, window_shape, window_state, twin_place}
 use Rattle.dual_grid.specs.Nodes.{edge_of, first_side, other_side}
 use Rattle.dual_grid.proofs.ArcLemmas.{arc_below, arc_taken, is_arc_at, tail_is, twin_at_place, twin_edge}
-use Rattle.dual_grid.specs.Building.{IsRasterWindow}
 use Rattle.dual_grid.proofs.EdgeLemmas.{capacity_few}
 use Rattle.dual_grid.proofs.FlowLemmas.{AreIdle, capacity_small, flow_after, flow_within, place_moved}
 use Rattle.sums_and_lists.specs.Sums.{where_true}
@@ -91,8 +91,8 @@ module _ (v : Window) (steep : ℕ) (weight : ℕ → ℕ) (flow later : ℕ →
             ∙ ap₂ (λ (x y : ℕ). x + y) refl (ap (λ (u : Bool). if u then m else 0) (sym twin)))
       ]
 
--- no flow is above 16777217
-pub within_all : (v : Window) → IsRasterWindow v → (steep : ℕ) (weights flows : List ℤ) → AreWithinCapacity v steep weights flows → (n : ℕ) → unsigned_abs (number_or_zero flows n) ≤ 16777217
+-- no flow is above 268435457
+pub within_all : (v : Window) → IsRasterWindow v → (steep : ℕ) (weights flows : List ℤ) → AreWithinCapacity v steep weights flows → (n : ℕ) → unsigned_abs (number_or_zero flows n) ≤ 268435457
 within_all v limited steep weights flows within n = omega (arith, within n, capacity_small (arc_capacity v) steep (weight_in weights n) (capacity_few v limited))
 
 -- ---- the lists after a push

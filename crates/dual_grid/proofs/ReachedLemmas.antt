@@ -6,6 +6,7 @@ use Rattle.std.proofs.lemmas.Int.{ints}
 use Rattle.std.proofs.lemmas.List.{get_or_past}
 use Rattle.std.proofs.lemmas.Nat.{mod_below}
 use Rattle.raster_model.specs.declared.tiling.Window.{Window}
+use Rattle.raster_model.specs.Tiles.{IsRasterWindow}
 use Rattle.flow_network.specs.Nets.{State, IsArc, HasReducedCosts, positive_part, reduced_cost, total_excess}
 use Rattle.flow_network.specs.Moves.{IsConserved, out_term, residual_out}
 use Rattle.flow_network.specs.Lists.{HasRoom}
@@ -13,7 +14,7 @@ use Rattle.flow_network.proofs.CallerLemmas.{term-le}
 use Rattle.flow_network.proofs.PushLemmas.{residual_out-same}
 use Rattle.dual_grid.specs.declared.grid.DualGrid.{DualGrid}
 use Rattle.dual_grid.specs.Answers.{StaysNearStart}
-use Rattle.dual_grid.specs.Building.{IsHeldAt, IsHeldBy, IsRasterWindow, leaves, positive_sum}
+use Rattle.dual_grid.specs.Building.{IsHeldAt, IsHeldBy, leaves, positive_sum}
 use Rattle.dual_grid.specs.Grids.{amount_of, arc_capacity, capacity_of, carried, cost_in_place, is_split, is_taken, leads_forth, residual_at, start_residual, twin_place, window_shape, window_state}
 use Rattle.dual_grid.specs.Layout.{AreWithinCapacity, flat_state_by, number_or_zero, state_by, weight_in}
 use Rattle.dual_grid.specs.Problems.{AreSmallNumbers}
@@ -344,13 +345,13 @@ pub where_small : (t : Bool) (z : ℤ) (b : ℕ) → unsigned_abs z ≤ b → un
 where_small true z b l = l
 where_small false z b l = omega (arith, ints)
 
-pub small_more : (n : ℕ) (before mid after x y : ℤ) → unsigned_abs x ≤ 16777216 → unsigned_abs y ≤ 16777216 → mid ≡ before +ℤ x → after ≡ mid +ℤ y → unsigned_abs before ≤ 16777216 + n * 33554432 → unsigned_abs after ≤ 16777216 + (n + 1) * 33554432
+pub small_more : (n : ℕ) (before mid after x y : ℤ) → unsigned_abs x ≤ 268435456 → unsigned_abs y ≤ 268435456 → mid ≡ before +ℤ x → after ≡ mid +ℤ y → unsigned_abs before ≤ 268435456 + n * 536870912 → unsigned_abs after ≤ 268435456 + (n + 1) * 536870912
 small_more n before mid after x y p q e f l = omega (arith, ints, p, q, e, f, l)
 
 -- ---- the grid after flows that go together with potentials
 module _ (g : DualGrid) (fresh : (a : ℕ) → IsArc (grid_shape g) a → (grid_state g).residual a ≡ grid_start g a) (few : total_excess (grid_shape g) (grid_state g) <ℤ pos (grid_shape g).nodes) where
   -- what the nodes have is small
-  pub excess_few : (u : ℕ) → unsigned_abs (number_or_zero g.excesses.items u) ≤ 16777216
+  pub excess_few : (u : ℕ) → unsigned_abs (number_or_zero g.excesses.items u) ≤ 268435456
   excess_few u =
       elim (cases_lt u (cells_of g.window + 1)) [
         | inl l ↦ (

@@ -3,11 +3,9 @@ use Rattle.std.proofs.Common.{◌≡◌, ℕ, zero, suc, ◌+◌, ◌-◌, ◌*�
 use Rattle.std.specs.Prelude.{ℤ, pos, negsuc, neg_ℤ, ◌+ℤ◌, ◌-ℤ◌, ◌≤ℤ◌, ◌<ℤ◌, unsigned_abs}
 use Rattle.std.proofs.lemmas.Int.{ints}
 use Rattle.std.proofs.lemmas.Nat.{div_below, mod_below}
-use Rattle.raster_model.specs.declared.scene.Scene.{Scene}
 use Rattle.raster_model.specs.declared.tiling.Window.{Window}
 use Rattle.raster_model.specs.Sums.{Field}
-use Rattle.raster_model.specs.Raster.{residue}
-use Rattle.raster_model.specs.Scene.{raster_of}
+use Rattle.raster_model.specs.Raster.{residue, Raster}
 use Rattle.raster_model.proofs.Exact.{residue_is_small}
 use Rattle.flow_network.specs.Nets.{Shape, State, positive_part, total_excess}
 use Rattle.flow_network.specs.Growing.{supply_sum, supply_sizes}
@@ -113,18 +111,18 @@ module _ (f : Field ℤ) (v : Window) (small : (x y : ℕ) → unsigned_abs (f x
       let e : total_excess s g ≡ sum_below (cells_of v + 1) (λ u. positive_part (supply_at f v u)) = ap (λ (n : ℕ). sum_below n part) nodes ∙ sum_below-same (cells_of v + 1) part (λ u. positive_part (supply_at f v u)) (λ u l. ap positive_part (start.excess u (omega (arith, nodes, l)))) in
       rw e all_parts
 
--- the residues that gradients tell are the scene's
-pub scene_supplies : (s : Scene) (g : GradientsView) (zs : List ℤ) → AreGradientsOf s g → AreCellSupplies (residue_at g) g.window zs → AreCellSupplies (residue (raster_of s)) g.window zs
-scene_supplies s g zs h are = supplies_same (residue_at g) (residue (raster_of s)) g.window (residues_are s g h) zs are
+-- the residues that gradients tell are the raster's
+pub raster_supplies : (r : Raster) (g : GradientsView) (zs : List ℤ) → AreGradientsOf r g → AreCellSupplies (residue_at g) g.window zs → AreCellSupplies (residue r) g.window zs
+raster_supplies r g zs h are = supplies_same (residue_at g) (residue r) g.window (residues_are r g h) zs are
 
-pub scene_even : (s : Scene) (g : GradientsView) (zs : List ℤ) → AreGradientsOf s g → AreCellSupplies (residue_at g) g.window zs → supply_sum zs ≡ pos 0
-scene_even s g zs h are = supplies_even (residue (raster_of s)) g.window (λ x y. (residue_is_small (raster_of s) x y).1) zs (scene_supplies s g zs h are)
+pub raster_even : (r : Raster) (g : GradientsView) (zs : List ℤ) → AreGradientsOf r g → AreCellSupplies (residue_at g) g.window zs → supply_sum zs ≡ pos 0
+raster_even r g zs h are = supplies_even (residue r) g.window (λ x y. (residue_is_small r x y).1) zs (raster_supplies r g zs h are)
 
-pub scene_sizes : (s : Scene) (g : GradientsView) (zs : List ℤ) → AreGradientsOf s g → AreCellSupplies (residue_at g) g.window zs → supply_sizes zs ≤ℤ pos (2 * cells_of g.window)
-scene_sizes s g zs h are = supplies_sizes (residue (raster_of s)) g.window (λ x y. (residue_is_small (raster_of s) x y).1) zs (scene_supplies s g zs h are)
+pub raster_sizes : (r : Raster) (g : GradientsView) (zs : List ℤ) → AreGradientsOf r g → AreCellSupplies (residue_at g) g.window zs → supply_sizes zs ≤ℤ pos (2 * cells_of g.window)
+raster_sizes r g zs h are = supplies_sizes (residue r) g.window (λ x y. (residue_is_small r x y).1) zs (raster_supplies r g zs h are)
 
--- at the start fewer units of a scene's residues are to flow than there are nodes
-pub few_of_scene : (begin : ℕ → ℕ) (s : Scene) (v : Window) (z : Shape) (g : State) → z.nodes ≡ cells_of v + 1 → IsAtStart begin (residue (raster_of s)) v z g → total_excess z g <ℤ pos z.nodes
-few_of_scene begin s v z g nodes start =
-    let few = few_positive (residue (raster_of s)) v (λ x y. (residue_is_small (raster_of s) x y).1) begin z g nodes start in
+-- at the start fewer units of a raster's residues are to flow than there are nodes
+pub few_of_raster : (begin : ℕ → ℕ) (r : Raster) (v : Window) (z : Shape) (g : State) → z.nodes ≡ cells_of v + 1 → IsAtStart begin (residue r) v z g → total_excess z g <ℤ pos z.nodes
+few_of_raster begin r v z g nodes start =
+    let few = few_positive (residue r) v (λ x y. (residue_is_small r x y).1) begin z g nodes start in
     omega (arith, ints, few, nodes)

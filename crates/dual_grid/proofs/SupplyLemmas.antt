@@ -30,13 +30,13 @@ sum_within zero f h = omega (arith, ints)
 sum_within (suc n) f h = omega (arith, ints, sum_within n f (λ k l. h k (omega arith)), h n (omega arith))
 
 -- one number less, in code at 64 bits
-pub less_fits : (zs : List ℤ) (n : ℕ) (r : ℤ) → length zs ≤ 16777216 → n < length zs → ((k : ℕ) → unsigned_abs (get_or zs k (pos 0)) ≤ 1) → r ≡ neg_ℤ (sum_of_first zs n) → FitsSigned w64 (r -ℤ to_z w64 (of_z w64 (get_or zs n (pos 0))))
+pub less_fits : (zs : List ℤ) (n : ℕ) (r : ℤ) → length zs ≤ 268435456 → n < length zs → ((k : ℕ) → unsigned_abs (get_or zs k (pos 0)) ≤ 1) → r ≡ neg_ℤ (sum_of_first zs n) → FitsSigned w64 (r -ℤ to_z w64 (of_z w64 (get_or zs n (pos 0))))
 less_fits zs n r few l small e =
     let s = sum_within n (λ k. get_or zs k (pos 0)) (λ k m. small k) in
     let z = small n in
     omega (arith, ints, e, s, z)
 
-pub less_is : (zs : List ℤ) (n : ℕ) (r : ℤ) → length zs ≤ 16777216 → n < length zs → ((k : ℕ) → unsigned_abs (get_or zs k (pos 0)) ≤ 1) → r ≡ neg_ℤ (sum_of_first zs n) → to_z w64 (of_z w64 (r -ℤ to_z w64 (of_z w64 (get_or zs n (pos 0))))) ≡ neg_ℤ (sum_of_first zs (n + 1))
+pub less_is : (zs : List ℤ) (n : ℕ) (r : ℤ) → length zs ≤ 268435456 → n < length zs → ((k : ℕ) → unsigned_abs (get_or zs k (pos 0)) ≤ 1) → r ≡ neg_ℤ (sum_of_first zs n) → to_z w64 (of_z w64 (r -ℤ to_z w64 (of_z w64 (get_or zs n (pos 0))))) ≡ neg_ℤ (sum_of_first zs (n + 1))
 less_is zs n r few l small e =
     let s = sum_within n (λ k. get_or zs k (pos 0)) (λ k m. small k) in
     let z = small n in

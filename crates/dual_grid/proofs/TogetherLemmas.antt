@@ -4,11 +4,9 @@ use Rattle.std.specs.Prelude.{ℤ, pos, negsuc, neg_ℤ, ◌+ℤ◌, ◌-ℤ◌,
 use Rattle.std.proofs.lemmas.Int.{ints}
 use Rattle.std.proofs.lemmas.List.{get_or_append_left, get_or-append-add}
 use Rattle.raster_model.specs.declared.edge.Edge.{Edge}
-use Rattle.raster_model.specs.declared.scene.Scene.{Scene}
 use Rattle.raster_model.specs.declared.tiling.Window.{Window}
-use Rattle.raster_model.specs.Raster.{residue}
-use Rattle.raster_model.specs.Scene.{raster_of}
-use Rattle.raster_model.specs.Tiles.{width_of}
+use Rattle.raster_model.specs.Raster.{residue, Raster}
+use Rattle.raster_model.specs.Tiles.{width_of, IsRasterWindow}
 use Rattle.flow_network.specs.Nets.{positive_part}
 use Rattle.flow_network.proofs.CallerLemmas.{sum-not_below}
 use Rattle.wrapped_gradient.specs.declared.corrections.Corrections.{Corrections}
@@ -16,7 +14,7 @@ use Rattle.wrapped_gradient.specs.Corrections.{correction_at, greatest, greatest
 use Rattle.wrapped_gradient.specs.Windows.{IsEdgeOf, edge_value}
 use Rattle.wrapped_gradient.proofs.CorrectionLemmas.{greatest_least, within_greatest}
 use Rattle.dual_grid.specs.declared.grid.DualGrid.{DualGrid}
-use Rattle.dual_grid.specs.Building.{AreTurnedFaces, IsHeldAt, IsHeldBy, IsRasterWindow, leaves, positive_sum}
+use Rattle.dual_grid.specs.Building.{AreTurnedFaces, IsHeldAt, IsHeldBy, leaves, positive_sum}
 use Rattle.dual_grid.specs.Grids.{AreWeighed, amount_of}
 use Rattle.dual_grid.specs.Layout.{AreLow, number_or_zero, weight_in}
 use Rattle.dual_grid.specs.Nodes.{cells_of, edge_number, edge_of, edges_of, first_side, other_side, rights_of}
@@ -100,7 +98,7 @@ held_same s t n m d e q r i j k l h = rw (i, j, k, l) at h
 sum_within : (a b c : ℕ) (x y : ℤ) → a ≡ b → x ≡ y → (pos a +ℤ x) ≤ℤ pos c → (pos b +ℤ y) ≤ℤ pos c
 sum_within a b c x y e f h = omega (arith, ints, e, f, h)
 
-module _ (s : Scene) (v : Window) (limited : IsRasterWindow v) (unmasked : List Bool) (steep : ℕ) (is : steep ≡ s.terms.steep) (weight : ℕ → ℕ) (weighed : AreWeighed (raster_of s) (open_in_window v unmasked) v weight) (excess : ℕ → ℤ) (supplied : (u : ℕ) → u < cells_of v + 1 → excess u ≡ supply_at (residue (raster_of s)) v u) (k : Corrections) (rights : length k.right.items ≡ rights_of v) (faces potentials : List ℤ) (turned : (u : ℕ) → number_or_zero potentials u ≡ neg_ℤ (number_or_zero faces u)) where
+module _ (r : Raster) (v : Window) (limited : IsRasterWindow v) (unmasked : List Bool) (steep : ℕ) (is : steep ≡ r.steep) (weight : ℕ → ℕ) (weighed : AreWeighed r (open_in_window v unmasked) v weight) (excess : ℕ → ℤ) (supplied : (u : ℕ) → u < cells_of v + 1 → excess u ≡ supply_at (residue r) v u) (k : Corrections) (rights : length k.right.items ≡ rights_of v) (faces potentials : List ℤ) (turned : (u : ℕ) → number_or_zero potentials u ≡ neg_ℤ (number_or_zero faces u)) where
   flow_at : (e : Edge) → IsEdgeOf v e → number_or_zero (k.right.items ++ k.down.items) (edge_number v e) ≡ correction_at v k e
   flow_at e i = go e.x e.y e.down i
     where
@@ -113,13 +111,13 @@ module _ (s : Scene) (v : Window) (limited : IsRasterWindow v) (unmasked : List 
   flow_is : (n : ℕ) → n < edges_of v → number_or_zero (k.right.items ++ k.down.items) n ≡ correction_flow v k n
   flow_is n l = ap (λ (m : ℕ). number_or_zero (k.right.items ++ k.down.items) m) (sym (number_of_edge v limited n l)) ∙ flow_at (edge_of v n) (edge_in v limited n l)
 
-  left_same : (u : ℕ) → u < cells_of v + 1 → left_after v (number_or_zero (k.right.items ++ k.down.items)) excess u ≡ left_after v (correction_flow v k) (supply_at (residue (raster_of s)) v) u
+  left_same : (u : ℕ) → u < cells_of v + 1 → left_after v (number_or_zero (k.right.items ++ k.down.items)) excess u ≡ left_after v (correction_flow v k) (supply_at (residue r) v) u
   left_same u l =
       ap₂ (λ (a b : ℤ). a -ℤ b) (supplied u l)
       (sum_below-same (edges_of v) (leaves v (number_or_zero (k.right.items ++ k.down.items)) u) (leaves v (correction_flow v k) u) (λ n m. ap (λ (z : ℤ). where_true (u == first_side v (edge_of v n)) z -ℤ where_true (u == other_side v (edge_of v n)) z) (flow_is n m)))
 
-  sent_same : to_send v (left_after v (number_or_zero (k.right.items ++ k.down.items)) excess) ≡ to_send v (left_after v (correction_flow v k) (supply_at (residue (raster_of s)) v))
-  sent_same = sum_below-same (cells_of v + 1) (λ u. positive_part (left_after v (number_or_zero (k.right.items ++ k.down.items)) excess u)) (λ u. positive_part (left_after v (correction_flow v k) (supply_at (residue (raster_of s)) v) u)) (λ u l. ap positive_part (left_same u l))
+  sent_same : to_send v (left_after v (number_or_zero (k.right.items ++ k.down.items)) excess) ≡ to_send v (left_after v (correction_flow v k) (supply_at (residue r) v))
+  sent_same = sum_below-same (cells_of v + 1) (λ u. positive_part (left_after v (number_or_zero (k.right.items ++ k.down.items)) excess u)) (λ u. positive_part (left_after v (correction_flow v k) (supply_at (residue r) v) u)) (λ u l. ap positive_part (left_same u l))
 
   difference : (e : Edge) → number_or_zero potentials (other_side v e) -ℤ number_or_zero potentials (first_side v e) ≡ face_of faces (first_side v e) -ℤ face_of faces (other_side v e)
   difference e = turned_difference _ _ _ _ (turned (other_side v e)) (turned (first_side v e))
@@ -127,7 +125,7 @@ module _ (s : Scene) (v : Window) (limited : IsRasterWindow v) (unmasked : List 
       turned_difference : (p q a b : ℤ) → p ≡ neg_ℤ a → q ≡ neg_ℤ b → p -ℤ q ≡ b -ℤ a
       turned_difference p q a b e f = omega (arith, ints, e, f)
 
-  lists_go_on : length faces ≡ cells_of v → AreLow faces → FlowsMayGoOn v steep weight excess (k.right.items ++ k.down.items) (number_or_zero potentials) → MayGoOn s v unmasked k faces
+  lists_go_on : length faces ≡ cells_of v → AreLow faces → FlowsMayGoOn v steep weight excess (k.right.items ++ k.down.items) (number_or_zero potentials) → MayGoOn r v unmasked k faces
   lists_go_on count low t = record {
     shape = (rights, omega (arith, rights, t.count, length-append k.right.items k.down.items));
     count = count;
@@ -136,7 +134,7 @@ module _ (s : Scene) (v : Window) (limited : IsRasterWindow v) (unmasked : List 
     within = sum_within (greatest (k.right.items ++ k.down.items)) (greatest_of k) (cells_of v) _ _ (greatest_joined k.right.items k.down.items) sent_same t.within;
   }
 
-  lists_together : MayGoOn s v unmasked k faces → FlowsMayGoOn v steep weight excess (k.right.items ++ k.down.items) (number_or_zero potentials)
+  lists_together : MayGoOn r v unmasked k faces → FlowsMayGoOn v steep weight excess (k.right.items ++ k.down.items) (number_or_zero potentials)
   lists_together m = record {
     count = omega (arith, m.shape, length-append k.right.items k.down.items);
     held = λ n l. (
@@ -149,24 +147,24 @@ module _ (s : Scene) (v : Window) (limited : IsRasterWindow v) (unmasked : List 
 abbrev pub GridGoesOn : DualGrid → List ℤ → List ℤ → Type 0
 GridGoesOn g flows potentials = FlowsMayGoOn g.window g.steep (weight_in g.weights.items) (number_or_zero g.excesses.items) flows (number_or_zero potentials)
 
-module _ (s : Scene) (v : Window) (unmasked : List Bool) (g : DualGrid) (grid : IsGridOf s v unmasked g) (start : IsAtStart (grid_start g) (residue (raster_of s)) v (grid_shape g) (grid_state g)) (k : Corrections) (faces : List ℤ) where
-  supplied_here : (u : ℕ) → u < cells_of g.window + 1 → number_or_zero g.excesses.items u ≡ supply_at (residue (raster_of s)) g.window u
-  supplied_here u l = start.excess u l ∙ ap (λ (w : Window). supply_at (residue (raster_of s)) w u) (sym grid.window)
+module _ (r : Raster) (v : Window) (unmasked : List Bool) (g : DualGrid) (grid : IsGridOf r v unmasked g) (start : IsAtStart (grid_start g) (residue r) v (grid_shape g) (grid_state g)) (k : Corrections) (faces : List ℤ) where
+  supplied_here : (u : ℕ) → u < cells_of g.window + 1 → number_or_zero g.excesses.items u ≡ supply_at (residue r) g.window u
+  supplied_here u l = start.excess u l ∙ ap (λ (w : Window). supply_at (residue r) w u) (sym grid.window)
 
-  here : MayGoOn s v unmasked k faces → MayGoOn s g.window unmasked k faces
-  here m = subst (λ (w : Window). MayGoOn s w unmasked k faces) (sym grid.window) m
+  here : MayGoOn r v unmasked k faces → MayGoOn r g.window unmasked k faces
+  here m = subst (λ (w : Window). MayGoOn r w unmasked k faces) (sym grid.window) m
 
-  pub rights_told : MayGoOn s v unmasked k faces → length k.right.items ≡ rights_of g.window
+  pub rights_told : MayGoOn r v unmasked k faces → length k.right.items ≡ rights_of g.window
   rights_told m = (here m).shape.0
 
-  pub faces_told : MayGoOn s v unmasked k faces → length faces + 1 ≡ length g.potentials.items
+  pub faces_told : MayGoOn r v unmasked k faces → length faces + 1 ≡ length g.potentials.items
   faces_told m = let c = (here m).count in omega (arith, c, g.fit.by_height)
 
   module _ (rights : length k.right.items ≡ rights_of g.window) (potentials : List ℤ) (turned : AreTurnedFaces faces potentials) where
-    pub grid_goes_on : length faces + 1 ≡ length g.potentials.items → AreLow faces → GridGoesOn g (k.right.items ++ k.down.items) potentials → MayGoOn s v unmasked k faces
+    pub grid_goes_on : length faces + 1 ≡ length g.potentials.items → AreLow faces → GridGoesOn g (k.right.items ++ k.down.items) potentials → MayGoOn r v unmasked k faces
     grid_goes_on count low t =
-        subst (λ (w : Window). MayGoOn s w unmasked k faces) grid.window
-        (lists_go_on s g.window g.limited unmasked g.steep grid.steep (weight_in g.weights.items) grid.weighed (number_or_zero g.excesses.items) supplied_here k rights faces potentials turned.values (omega (arith, count, g.fit.by_height)) low t)
+        subst (λ (w : Window). MayGoOn r w unmasked k faces) grid.window
+        (lists_go_on r g.window g.limited unmasked g.steep grid.steep (weight_in g.weights.items) grid.weighed (number_or_zero g.excesses.items) supplied_here k rights faces potentials turned.values (omega (arith, count, g.fit.by_height)) low t)
 
-    pub grid_together : MayGoOn s v unmasked k faces → GridGoesOn g (k.right.items ++ k.down.items) potentials
-    grid_together m = lists_together s g.window g.limited unmasked g.steep grid.steep (weight_in g.weights.items) grid.weighed (number_or_zero g.excesses.items) supplied_here k rights faces potentials turned.values (here m)
+    pub grid_together : MayGoOn r v unmasked k faces → GridGoesOn g (k.right.items ++ k.down.items) potentials
+    grid_together m = lists_together r g.window g.limited unmasked g.steep grid.steep (weight_in g.weights.items) grid.weighed (number_or_zero g.excesses.items) supplied_here k rights faces potentials turned.values (here m)

@@ -9,8 +9,6 @@ use Rattle.raster_model.specs.Cells.{cell_count, face_at}
 use Rattle.flow_network.specs.Nets.{Shape, State, IsArc, total_excess}
 use Rattle.wrapped_gradient.specs.declared.corrections.Corrections.{Corrections}
 use Rattle.wrapped_gradient.specs.Corrections.{HasShapeOf, CancelResidues, correction_at, greatest_of}
-use Rattle.raster_model.specs.declared.scene.Scene.{Scene}
-use Rattle.raster_model.specs.Scene.{raster_of}
 use Rattle.raster_model.specs.Tilings.{tiled_by}
 use Rattle.raster_model.specs.Tiles.{IsTileWindow}
 use Rattle.dual_grid.specs.Nodes.{cells_of}
@@ -37,6 +35,6 @@ pub record AreCertifiedCorrections (raster : Raster) (mask : Field Bool) (tile :
   pub fits : (e : Edge) → IsTileEdge raster tile e → FacesFit raster mask tile (face_at raster tile faces) e
   pub equal : face_bound raster mask tile (face_at raster tile faces) ≡ correction_cost raster mask tile window corrections
 
--- they are such for the window, whatever the tiles of the scene's raster are: for each tile that has exactly the window's pixels
-abbrev pub AreCertifiedOver : Scene → Field Bool → Window → Corrections → List ℤ → Type 0
-AreCertifiedOver scene mask window corrections faces = (tiles : Field ℕ) (count tile : ℕ) → IsTileWindow (tiled_by (raster_of scene) tiles count) tile window → AreCertifiedCorrections (tiled_by (raster_of scene) tiles count) mask tile window corrections faces
+-- they are such for the window, whatever the tiles of the raster are: for each tile that has exactly the window's pixels
+abbrev pub AreCertifiedOver : Raster → Field Bool → Window → Corrections → List ℤ → Type 0
+AreCertifiedOver raster mask window corrections faces = (tiles : Field ℕ) (count tile : ℕ) → IsTileWindow (tiled_by raster tiles count) tile window → AreCertifiedCorrections (tiled_by raster tiles count) mask tile window corrections faces

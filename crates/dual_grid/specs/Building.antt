@@ -1,10 +1,9 @@
 -- What a grid is made from, how an arc is found, and the lists that a grid answers. These are words of helpers. Of them the clauses of a grid that was reached cite AreTurnedFaces, and by MayGoOn also IsHeldBy and leaves.
 use Rattle.std.specs.Prelude.{◌≡◌, ℕ, ◌+◌, ◌*◌, ◌<◌, ◌≤◌, ◌⊎◌, ℤ, pos, neg_ℤ, ◌-ℤ◌, ◌≤ℤ◌, ◌==◌, unsigned_abs, Bool, false, IsTrue, ◌&&◌, if◌then◌else◌, List, length, get_or, slice_index_or, Option, Some, None}
-use Rattle.raster_model.specs.declared.scene.Scene.{Scene}
 use Rattle.raster_model.specs.declared.tiling.Window.{Window}
-use Rattle.raster_model.specs.Limits.{max_tiled_side}
+use Rattle.raster_model.specs.Raster.{Raster}
 use Rattle.raster_model.specs.Sums.{Field}
-use Rattle.raster_model.specs.Tiles.{IsWindowIn, width_of, height_of}
+use Rattle.raster_model.specs.Tiles.{IsRasterWindow, IsWindowIn, width_of, height_of}
 use Rattle.wrapped_gradient.specs.declared.corrections.Corrections.{Corrections}
 use Rattle.flow_network.specs.Nets.{Shape, IsGreatest, NoneBetween, positive_part}
 use Rattle.dual_grid.specs.Nodes.{cells_of, rights_of, downs_of, edge_of, first_side, other_side}
@@ -12,14 +11,9 @@ use Rattle.dual_grid.specs.Starts.{supply_at}
 use Rattle.dual_grid.specs.Grids.{amount_of, is_taken, leads_forth}
 use Rattle.sums_and_lists.specs.Sums.{sum_below, where_true}
 
--- the window has a pixel, and lies in a raster whose sides are within the limits
-pub record IsRasterWindow (window : Window) : Type 0 where
-  pub across : (window.x0 ≤ window.x1) × (window.x1 < max_tiled_side)
-  pub along : (window.y0 ≤ window.y1) × (window.y1 < max_tiled_side)
-
--- the window lies in the scene and in the limits, and the list tells of each of its pixels whether it is open
-pub record IsMadeFor (scene : Scene) (window : Window) (unmasked : List Bool) : Type 0 where
-  pub inside : IsWindowIn scene.phase.width scene.phase.height window
+-- the window lies in the raster and in the limits, and the list tells of each of its pixels whether it is open
+pub record IsMadeFor (raster : Raster) (window : Window) (unmasked : List Bool) : Type 0 where
+  pub inside : IsWindowIn raster.width raster.height window
   pub limited : IsRasterWindow window
   pub count : length unmasked ≡ width_of window * height_of window
 

@@ -96,7 +96,7 @@ start_residual window steep weight a = residual_at (arc_capacity window) steep (
 abbrev pub AreWeighed : Raster → Field Bool → Window → (ℕ → ℕ) → Type 0
 AreWeighed raster mask window weight = (edge : Edge) → IsEdgeOf window edge → weight (edge_number window edge) ≡ masked_weight raster mask edge
 
--- no cost is above 1048560 on either side of 0, which is 16 times the greatest weight, and there are at most 16777216 nodes
+-- no cost is above the greatest steepness times the greatest weight on either side of 0, and there are no more nodes than a network over a raster has
 pub record HasSmallCosts (shape : Shape) : Type 0 where
   pub costs : (a : ℕ) → IsArc shape a → unsigned_abs (shape.cost a) ≤ MAX_CYCLE_COST
   pub few : shape.nodes ≤ MAX_NETWORK_NODES

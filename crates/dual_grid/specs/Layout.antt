@@ -1,8 +1,9 @@
 -- A grid as lists: weights and flows in the order of the edges' numbers, excesses and potentials in that of the nodes.
-use Rattle.std.specs.Prelude.{◌≡◌, ◌+◌, ◌^◌, ◌<◌, ◌≤◌, ℕ, ℤ, pos, List, [], length, get_or, unsigned_abs}
+use Rattle.std.specs.Prelude.{◌≡◌, ◌+◌, ◌<◌, ◌≤◌, ℕ, ℤ, pos, List, [], length, get_or, unsigned_abs}
 use Rattle.raster_model.specs.declared.tiling.Window.{Window}
 use Rattle.flow_network.specs.declared.limits.TheConstants.{POTENTIAL_BOUND}
 use Rattle.flow_network.specs.Nets.{Shape, State}
+use Rattle.dual_grid.specs.declared.limits.TheConstants.{MAX_REACHED_POTENTIAL}
 use Rattle.dual_grid.specs.Nodes.{cells_of, edges_of}
 use Rattle.dual_grid.specs.Grids.{arc_capacity, capacity_of, window_shape, window_state}
 
@@ -37,6 +38,6 @@ AreWithinCapacity window steep weights flows = (n : ℕ) → unsigned_abs (numbe
 abbrev pub AreWithinReach : List ℤ → Type 0
 AreWithinReach potentials = (u : ℕ) → unsigned_abs (number_or_zero potentials u) < POTENTIAL_BOUND
 
--- each potential lies within 2^34 on either side of 0
+-- no potential is farther from 0 than those from which a network is gone on
 abbrev pub AreLow : List ℤ → Type 0
-AreLow potentials = (u : ℕ) → unsigned_abs (number_or_zero potentials u) ≤ 2 ^ 34
+AreLow potentials = (u : ℕ) → unsigned_abs (number_or_zero potentials u) ≤ MAX_REACHED_POTENTIAL

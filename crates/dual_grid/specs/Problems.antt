@@ -1,11 +1,9 @@
 -- What a tile asks of its corrections and faces: weights and residues as lists hold them, and lists that answer.
 use Rattle.std.specs.Prelude.{◌≡◌, ℕ, ◌+◌, ◌*◌, ◌≤◌, ℤ, pos, neg_ℤ, ◌-ℤ◌, ◌*ℤ◌, Bool, List, length, slice_index_or, unsigned_abs}
 use Rattle.raster_model.specs.declared.edge.Edge.{Edge}
-use Rattle.raster_model.specs.declared.scene.Scene.{Scene}
 use Rattle.raster_model.specs.declared.tiling.Window.{Window}
 use Rattle.raster_model.specs.Sums.{Field, down_edge, right_edge}
-use Rattle.raster_model.specs.Raster.{masked_weight, over, residue, steps}
-use Rattle.raster_model.specs.Scene.{raster_of}
+use Rattle.raster_model.specs.Raster.{Raster, masked_weight, over, residue, steps}
 use Rattle.wrapped_gradient.specs.declared.corrections.Corrections.{Corrections}
 use Rattle.wrapped_gradient.specs.Corrections.{HasShapeOf, correction_at}
 use Rattle.wrapped_gradient.specs.Windows.{IsCellOf, IsEdgeOf, edge_value, round}
@@ -21,19 +19,19 @@ weight_at problem = edge_value problem.window problem.right.items problem.down.i
 abbrev pub problem_residue : Problem → Field ℤ
 problem_residue problem x y = slice_index_or problem.residues.items (node_at problem.window x y) (pos 0)
 
--- the problem of a window of a scene; the list tells of each pixel of the window whether it is open
-pub record IsProblemOf (scene : Scene) (v : Window) (unmasked : List Bool) (problem : Problem) : Type 0 where
+-- the problem of a window of a raster; the list tells of each pixel of the window whether it is open
+pub record IsProblemOf (raster : Raster) (v : Window) (unmasked : List Bool) (problem : Problem) : Type 0 where
   pub window : problem.window ≡ v
-  pub steep : problem.steep ≡ scene.terms.steep
-  pub weights : (e : Edge) → IsEdgeOf problem.window e → weight_at problem e ≡ pos (masked_weight (raster_of scene) (open_in_window problem.window unmasked) e)
-  pub residues : (x y : ℕ) → IsCellOf problem.window x y → problem_residue problem x y ≡ residue (raster_of scene) x y
+  pub steep : problem.steep ≡ raster.steep
+  pub weights : (e : Edge) → IsEdgeOf problem.window e → weight_at problem e ≡ pos (masked_weight raster (open_in_window problem.window unmasked) e)
+  pub residues : (x y : ℕ) → IsCellOf problem.window x y → problem_residue problem x y ≡ residue raster x y
 
 -- the weights of the right edge and of the down edge that start at a pixel of a window, under the mask that the list tells
-abbrev pub right_edge_weights : Scene → Window → List Bool → Field ℤ
-right_edge_weights scene v unmasked x y = pos (masked_weight (raster_of scene) (open_in_window v unmasked) (right_edge x y))
+abbrev pub right_edge_weights : Raster → Window → List Bool → Field ℤ
+right_edge_weights raster v unmasked x y = pos (masked_weight raster (open_in_window v unmasked) (right_edge x y))
 
-abbrev pub down_edge_weights : Scene → Window → List Bool → Field ℤ
-down_edge_weights scene v unmasked x y = pos (masked_weight (raster_of scene) (open_in_window v unmasked) (down_edge x y))
+abbrev pub down_edge_weights : Raster → Window → List Bool → Field ℤ
+down_edge_weights raster v unmasked x y = pos (masked_weight raster (open_in_window v unmasked) (down_edge x y))
 
 -- the face of a node in a list of faces, which is 0 for the outside
 abbrev pub face_of : List ℤ → ℕ → ℤ
@@ -62,4 +60,4 @@ AreSmallNumbers bound zs = (i : ℕ) → unsigned_abs (slice_index_or zs i (pos 
 
 -- corrections and a list of faces that are an answer for each window of which this is the problem
 abbrev pub IsAnsweredBy : Problem → Corrections → List ℤ → Type 0
-IsAnsweredBy problem corrections faces = (scene : Scene) (v : Window) (unmasked : List Bool) (mask : Field Bool) → IsProblemOf scene v unmasked problem → TellsMask v unmasked mask → AreCertifiedOver scene mask v corrections faces
+IsAnsweredBy problem corrections faces = (raster : Raster) (v : Window) (unmasked : List Bool) (mask : Field Bool) → IsProblemOf raster v unmasked problem → TellsMask v unmasked mask → AreCertifiedOver raster mask v corrections faces

@@ -1,10 +1,8 @@
 -- From which corrections and faces a grid goes on, and from which flows and potentials.
 use Rattle.std.specs.Prelude.{◌≡◌, ℕ, ◌+◌, ◌<◌, ℤ, pos, ◌+ℤ◌, ◌-ℤ◌, ◌≤ℤ◌, Bool, List, length}
 use Rattle.raster_model.specs.declared.edge.Edge.{Edge}
-use Rattle.raster_model.specs.declared.scene.Scene.{Scene}
 use Rattle.raster_model.specs.declared.tiling.Window.{Window}
-use Rattle.raster_model.specs.Raster.{masked_weight, residue}
-use Rattle.raster_model.specs.Scene.{raster_of}
+use Rattle.raster_model.specs.Raster.{Raster, masked_weight, residue}
 use Rattle.flow_network.specs.Nets.{positive_part}
 use Rattle.wrapped_gradient.specs.declared.corrections.Corrections.{Corrections}
 use Rattle.wrapped_gradient.specs.Corrections.{HasShapeOf, correction_at, greatest, greatest_of}
@@ -28,13 +26,13 @@ to_send window excess = sum_below (cells_of window + 1) (λ u. positive_part (ex
 abbrev pub correction_flow : Window → Corrections → ℕ → ℤ
 correction_flow window corrections n = correction_at window corrections (edge_of window n)
 
--- corrections and faces from which the grid over a window goes on: they have the window's shape, no face is farther from 0 than 2^34, the faces on the sides of each edge hold its correction at its weight under the mask, and the greatest correction and what all nodes have to send after the corrections are together no more than the window has cells
-pub record MayGoOn (scene : Scene) (window : Window) (unmasked : List Bool) (corrections : Corrections) (faces : List ℤ) : Type 0 where
+-- corrections and faces from which the grid over a window goes on: they have the window's shape, the faces are low, the faces on the sides of each edge hold its correction at its weight under the mask, and the greatest correction and what all nodes have to send after the corrections are together no more than the window has cells
+pub record MayGoOn (raster : Raster) (window : Window) (unmasked : List Bool) (corrections : Corrections) (faces : List ℤ) : Type 0 where
   pub shape : HasShapeOf window corrections
   pub count : length faces ≡ cells_of window
   pub low : AreLow faces
-  pub held : (e : Edge) → IsEdgeOf window e → IsHeldBy scene.terms.steep (masked_weight (raster_of scene) (open_in_window window unmasked) e) (face_of faces (first_side window e) -ℤ face_of faces (other_side window e)) (correction_at window corrections e)
-  pub within : (pos (greatest_of corrections) +ℤ to_send window (left_after window (correction_flow window corrections) (supply_at (residue (raster_of scene)) window))) ≤ℤ pos (cells_of window)
+  pub held : (e : Edge) → IsEdgeOf window e → IsHeldBy raster.steep (masked_weight raster (open_in_window window unmasked) e) (face_of faces (first_side window e) -ℤ face_of faces (other_side window e)) (correction_at window corrections e)
+  pub within : (pos (greatest_of corrections) +ℤ to_send window (left_after window (correction_flow window corrections) (supply_at (residue raster) window))) ≤ℤ pos (cells_of window)
 
 -- the same of flows and potentials as a grid holds them, where the nodes have these excesses before
 pub record FlowsMayGoOn (window : Window) (steep : ℕ) (weight : ℕ → ℕ) (excess : ℕ → ℤ) (flows : List ℤ) (potential : ℕ → ℤ) : Type 0 where

@@ -1,9 +1,7 @@
 -- A grid, seen as every network is, and what it was made from.
 use Rattle.std.specs.Prelude.{◌≡◌, ℕ, List, Bool}
 use Rattle.std.proofs.Common.{◌∙◌, refl, subst}
-use Rattle.raster_model.specs.declared.scene.Scene.{Scene}
-use Rattle.raster_model.specs.Raster.{residue}
-use Rattle.raster_model.specs.Scene.{raster_of}
+use Rattle.raster_model.specs.Raster.{Raster, residue}
 use Rattle.raster_model.specs.declared.tiling.Window.{Window}
 use Rattle.flow_network.specs.Nets.{Shape, State}
 use Rattle.flow_network.specs.Moves.{IsConserved}
@@ -23,12 +21,12 @@ grid_state grid = state_by grid.window grid.steep grid.weights.items grid.flows.
 abbrev pub grid_start : DualGrid → ℕ → ℕ
 grid_start grid = start_residual grid.window grid.steep (weight_in grid.weights.items)
 
--- the grid of a window of a scene; the list tells of each pixel of the window whether it is open; flow may have moved
-pub record IsGridOf (scene : Scene) (v : Window) (unmasked : List Bool) (grid : DualGrid) : Type 0 where
+-- the grid of a window of a raster; the list tells of each pixel of the window whether it is open; flow may have moved
+pub record IsGridOf (raster : Raster) (v : Window) (unmasked : List Bool) (grid : DualGrid) : Type 0 where
   pub window : grid.window ≡ v
-  pub steep : grid.steep ≡ scene.terms.steep
-  pub weighed : AreWeighed (raster_of scene) (open_in_window grid.window unmasked) grid.window (weight_in grid.weights.items)
-  pub conserved : IsConserved (grid_shape grid) (start_state (grid_start grid) (residue (raster_of scene)) grid.window) (grid_state grid)
+  pub steep : grid.steep ≡ raster.steep
+  pub weighed : AreWeighed raster (open_in_window grid.window unmasked) grid.window (weight_in grid.weights.items)
+  pub conserved : IsConserved (grid_shape grid) (start_state (grid_start grid) (residue raster) grid.window) (grid_state grid)
 
 -- grids that were made from the same things
 pub record HaveOneOrigin (g h : DualGrid) : Type 0 where

@@ -5,6 +5,7 @@ ghost use Rattle.std.specs.Prelude.{◌≡◌, ◌*◌, ◌*ℤ◌, ◌<◌, ◌
 ghost use Rattle.wrapped_gradient.specs.Corrections.{correction_at};
 ghost use Rattle.wrapped_gradient.specs.Windows.{IsCellOf, IsEdgeOf, edge_value};
 
+use crate::limits::{MAX_HELD_CORRECTION, MAX_HELD_RESIDUE};
 use crate::problem::Problem;
 use crate::sides::sides;
 use raster_model::{Edge, Window};
@@ -52,7 +53,7 @@ fn number(window: Window, right: &[i32], down: &[i32], edge: Edge) -> i32
 fn correction(window: Window, corrections: &Corrections, x: u32, y: u32, down: bool) -> i64
     requires { IsEdgeOf window (record { x = x; y = y; down = down }) }
     ensures value { result ≡ correction_at window corrections.now (record { x = x; y = y; down = down }) }
-    ensures small { unsigned_abs result ≤ 2147483648 }
+    ensures small { unsigned_abs result ≤ MAX_HELD_CORRECTION }
 {
     let edge = Edge { x, y, down };
     i64::from(number(window, &corrections.right, &corrections.down, edge))
@@ -69,7 +70,7 @@ fn residue_of(residues: &[i8], place: usize) -> i8
 fn residue(problem: &Problem, x: u32, y: u32) -> i64
     requires { IsCellOf problem.now.window x y }
     ensures value { result ≡ problem_residue problem.now x y }
-    ensures small { unsigned_abs result ≤ 128 }
+    ensures small { unsigned_abs result ≤ MAX_HELD_RESIDUE }
 {
     let window = problem.window;
     let (column, row) = ((x - window.x0) as usize, (y - window.y0) as usize);

@@ -1,5 +1,6 @@
-ghost use Rattle.dual_grid.specs.Building.{IsEdgeBelow, IsRasterWindow, LiesAt, LiesAtNone};
+ghost use Rattle.dual_grid.specs.Building.{IsEdgeBelow, LiesAt, LiesAtNone};
 ghost use Rattle.dual_grid.specs.Nodes.{cells_of, edge_of, edges_of, first_side, other_side, rights_of};
+ghost use Rattle.raster_model.specs.Tiles.{IsRasterWindow};
 ghost use Rattle.std.specs.Prelude.{◌≡◌, ◌+◌, ◌<◌, ◌≤◌};
 
 use crate::sides::outside;

@@ -1,8 +1,8 @@
-ghost use Rattle.dual_grid.specs.Building.{IsRasterWindow};
 ghost use Rattle.dual_grid.specs.Layout.{AreWithinCapacity, AreWithinReach, FitGrid, flat_state_by, shape_by, state_by};
 ghost use Rattle.flow_network.specs.Lists.{HasRoom};
-ghost use Rattle.raster_model.specs.Limits.{IsSteepness};
 ghost use Rattle.flow_network.specs.Nets.{HasReducedCosts, IsNetwork, HasNoExcess, total_excess};
+ghost use Rattle.raster_model.specs.Limits.{IsSteepness};
+ghost use Rattle.raster_model.specs.Tiles.{IsRasterWindow};
 
 use crate::answering::faces;
 use crate::arcs::{flow_after, leads_forth, place_below, residual_at, size_of_cost, twin_place};
@@ -13,7 +13,7 @@ use crate::reaching::{are_low, greatest, move_flows, sums_within, turned};
 use crate::sides::outside;
 use crate::supplies::supplies;
 use flow_network::{FlowNet, POTENTIAL_BOUND, add_each, carry};
-use raster_model::{Scene, Window};
+use raster_model::{Scene, Sheet, Window};
 use std::alloc::{AllocError, Global};
 use wrapped_gradient::{Corrections, Gradients};
 
@@ -151,11 +151,11 @@ impl DualGrid {
     ghost use Rattle.dual_grid.specs.Starts.{IsAtStart, TellsMask};
     ghost use Rattle.dual_grid.specs.Views.{HaveOneOrigin, IsGridOf, grid_shape, grid_start, grid_state};
     ghost use Rattle.flow_network.specs.Moves.{IsRaised, MayRaise};
-    ghost use Rattle.raster_model.specs.Raster.{residue};
+    ghost use Rattle.raster_model.specs.Raster.{Raster, residue};
     ghost use Rattle.raster_model.specs.Scene.{raster_of};
+    ghost use Rattle.raster_model.specs.Sheets.{sheet_raster};
     ghost use Rattle.raster_model.specs.Sums.{Field};
     ghost use Rattle.raster_model.specs.Tiles.{tiles_of, window_of, width_of, height_of};
-    ghost use Rattle.raster_model.specs.declared.scene.Scene.{Scene as SceneOf};
     ghost use Rattle.raster_model.specs.declared.tiling.Window.{Window as WindowOf};
     ghost use Rattle.std.specs.Prelude.{◌≡◌, ◌*◌, ◌^◌, ◌<◌, ◌≤◌, ◌+ℤ◌, ◌-ℤ◌, ◌<ℤ◌, ◌++◌, ℕ, Bool, IfNone, IfOk, IfSome, IsTrue, List, get_or, length, pos, unsigned_abs};
     ghost use Rattle.wrapped_gradient.specs.Gradients.{AreGradientsOf};
@@ -169,45 +169,45 @@ impl DualGrid {
         unmasked: &[bool],
     ) -> Result<DualGrid, AllocError>
         requires tile { tile < tiles_of scene.now.tiling }
-        requires gradients { AreGradientsOf scene.now gradients.now }
+        requires gradients { AreGradientsOf (raster_of scene.now) gradients.now }
         requires window { gradients.now.window ≡ window_of scene.now.tiling tile }
         requires count { length unmasked.now ≡ width_of gradients.now.window * height_of gradients.now.window }
-        ensures grid { IfOk result (λ grid. IsGridOf scene.now (window_of scene.now.tiling tile) unmasked.now grid) }
+        ensures grid { IfOk result (λ grid. IsGridOf (raster_of scene.now) (window_of scene.now.tiling tile) unmasked.now grid) }
         ensures start { IfOk result (λ grid. IsAtStart (grid_start grid) (residue (raster_of scene.now)) (window_of scene.now.tiling tile) (grid_shape grid) (grid_state grid)) }
         ensures small { IfOk result (λ grid. HasSmallCosts (grid_shape grid)) }
         ensures few { IfOk result (λ grid. total_excess (grid_shape grid) (grid_state grid) <ℤ pos (grid_shape grid).nodes) }
         ensures joined { IfOk result (λ grid. IsConnected (grid_start grid) (grid_shape grid)) }
     {
-        DualGrid::over(alloc, scene, gradients, unmasked)
+        DualGrid::over(alloc, &scene.sheet(), gradients, unmasked)
     }
 
-    /// The grid over a window of a scene, which is that of the gradients. `unmasked` tells the mask: for each pixel of the
+    /// The grid over a window of a sheet, which is that of the gradients. `unmasked` tells the mask: for each pixel of the
     /// window, in row order, whether it is open. Nothing has flowed yet, and each cell has its residue as excess. Fewer
     /// units are to flow than there are nodes. It fails only for lack of memory.
     pub fn over(
         alloc: Global,
-        scene: &Scene,
+        sheet: &Sheet,
         gradients: &Gradients,
         unmasked: &[bool],
     ) -> Result<DualGrid, AllocError>
-        requires gradients { AreGradientsOf scene.now gradients.now }
+        requires gradients { AreGradientsOf (sheet_raster sheet.now) gradients.now }
         requires count { length unmasked.now ≡ width_of gradients.now.window * height_of gradients.now.window }
-        ensures grid { IfOk result (λ grid. IsGridOf scene.now gradients.now.window unmasked.now grid) }
-        ensures start { IfOk result (λ grid. IsAtStart (grid_start grid) (residue (raster_of scene.now)) gradients.now.window (grid_shape grid) (grid_state grid)) }
+        ensures grid { IfOk result (λ grid. IsGridOf (sheet_raster sheet.now) gradients.now.window unmasked.now grid) }
+        ensures start { IfOk result (λ grid. IsAtStart (grid_start grid) (residue (sheet_raster sheet.now)) gradients.now.window (grid_shape grid) (grid_state grid)) }
         ensures small { IfOk result (λ grid. HasSmallCosts (grid_shape grid)) }
         ensures few { IfOk result (λ grid. total_excess (grid_shape grid) (grid_state grid) <ℤ pos (grid_shape grid).nodes) }
         ensures joined { IfOk result (λ grid. IsConnected (grid_start grid) (grid_shape grid)) }
     {
         let window = gradients.window();
-        let mut weights = right_weights(alloc, scene, window, unmasked)?;
-        let mut down = down_weights(alloc, scene, window, unmasked)?;
+        let mut weights = right_weights(alloc, sheet, window, unmasked)?;
+        let mut down = down_weights(alloc, sheet, window, unmasked)?;
         weights.append(&mut down)?;
         let flows = vec![in alloc; 0; weights.len()]?;
         let excesses = supplies(alloc, gradients)?;
         let potentials = vec![in alloc; 0; excesses.len()]?;
         Ok(DualGrid {
             window,
-            steep: scene.terms.steep,
+            steep: sheet.terms.steep,
             weights,
             flows,
             excesses,
@@ -215,32 +215,32 @@ impl DualGrid {
         })
     }
 
-    /// The grid over a window of a scene, as `over` makes it, after the corrections have flowed across the edges, where the
+    /// The grid over a window of a sheet, as `over` makes it, after the corrections have flowed across the edges, where the
     /// nodes have minus the faces as potentials. `None` tells that corrections and faces do not have the window's shape,
     /// that an arc with capacity left would have a reduced cost below 0 (Ahuja, Magnanti and Orlin 1993, section 9.3), or that
     /// a face, or what has flowed and is to flow, is too great. In all other cases there is a grid. It fails only for lack
     /// of memory.
     pub fn reached(
         alloc: Global,
-        scene: &Scene,
+        sheet: &Sheet,
         gradients: &Gradients,
         unmasked: &[bool],
         corrections: Corrections,
         faces: &[i64],
     ) -> Result<Option<DualGrid>, AllocError>
-        requires gradients { AreGradientsOf scene.now gradients.now }
+        requires gradients { AreGradientsOf (sheet_raster sheet.now) gradients.now }
         requires count { length unmasked.now ≡ width_of gradients.now.window * height_of gradients.now.window }
-        ensures grid { IfOk result (λ made. IfSome made (λ grid. IsGridOf scene.now gradients.now.window unmasked.now grid)) }
+        ensures grid { IfOk result (λ made. IfSome made (λ grid. IsGridOf (sheet_raster sheet.now) gradients.now.window unmasked.now grid)) }
         ensures small { IfOk result (λ made. IfSome made (λ grid. HasSmallCosts (grid_shape grid))) }
         ensures near { IfOk result (λ made. IfSome made (λ grid. StaysNearStart (grid_start grid) (grid_shape grid) (grid_state grid))) }
         ensures joined { IfOk result (λ made. IfSome made (λ grid. IsConnected (grid_start grid) (grid_shape grid))) }
         ensures low { IfOk result (λ made. IfSome made (λ grid. AreLow grid.potentials.items)) }
         ensures flows { IfOk result (λ made. IfSome made (λ grid. grid.flows.items ≡ corrections.right.items ++ corrections.down.items)) }
         ensures heights { IfOk result (λ made. IfSome made (λ grid. AreTurnedFaces faces.now grid.potentials.items)) }
-        ensures may { IfOk result (λ made. IfSome made (λ grid. MayGoOn scene.now gradients.now.window unmasked.now corrections faces.now)) }
-        ensures none { IfOk result (λ made. IfNone made (MayGoOn scene.now gradients.now.window unmasked.now corrections faces.now → ⊥)) }
+        ensures may { IfOk result (λ made. IfSome made (λ grid. MayGoOn (sheet_raster sheet.now) gradients.now.window unmasked.now corrections faces.now)) }
+        ensures none { IfOk result (λ made. IfNone made (MayGoOn (sheet_raster sheet.now) gradients.now.window unmasked.now corrections faces.now → ⊥)) }
     {
-        let start = DualGrid::over(alloc, scene, gradients, unmasked)?;
+        let start = DualGrid::over(alloc, sheet, gradients, unmasked)?;
         if faces.len() + 1 != start.potentials.len() || !are_low(faces) {
             return Ok(None);
         }
@@ -326,7 +326,7 @@ impl DualGrid {
     pub fn answer(self, alloc: Global) -> Result<(Corrections, Vec<i64>), AllocError>
         requires balanced { HasNoExcess (grid_shape self) (grid_state self) }
         requires near { IsNearStart (grid_start self) (grid_shape self) (grid_state self) }
-        ensures { IfOk result (λ made. (s : SceneOf) (v : WindowOf) (unmasked : List Bool) (mask : Field Bool) → IsGridOf s v unmasked self → TellsMask v unmasked mask → AreCertifiedOver s mask v made.0 made.1.items) }
+        ensures { IfOk result (λ made. (r : Raster) (v : WindowOf) (unmasked : List Bool) (mask : Field Bool) → IsGridOf r v unmasked self → TellsMask v unmasked mask → AreCertifiedOver r mask v made.0 made.1.items) }
     {
         let faces = faces(alloc, &self.potentials, outside(self.window))?;
         let mut right = self.flows;

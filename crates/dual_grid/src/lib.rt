@@ -7,6 +7,7 @@ mod arcs;
 mod checking;
 mod edge_numbers;
 mod grid;
+mod limits;
 mod listing;
 mod problem;
 mod reaching;
@@ -15,4 +16,5 @@ mod supplies;
 mod weighing;
 
 pub use crate::grid::DualGrid;
+pub use crate::limits::MAX_REACHED_POTENTIAL;
 pub use crate::problem::Problem;

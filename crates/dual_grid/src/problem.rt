@@ -1,4 +1,4 @@
-ghost use Rattle.dual_grid.specs.Building.{IsRasterWindow};
+ghost use Rattle.raster_model.specs.Tiles.{IsRasterWindow};
 
 use crate::checking::{all_cancelled, are_small, down_edges_tight, has_shape, right_edges_tight};
 use crate::listing::{down_weights, residues, right_weights};
@@ -26,6 +26,7 @@ pub struct Problem {
 
 impl Problem {
     ghost use Rattle.dual_grid.specs.Problems.{IsAnsweredBy, IsProblemOf};
+    ghost use Rattle.raster_model.specs.Scene.{raster_of};
     ghost use Rattle.raster_model.specs.Tiles.{tiles_of, window_of, width_of, height_of};
     ghost use Rattle.std.specs.Prelude.{◌≡◌, ◌*◌, ◌<◌, IfOk, IsTrue, length};
     ghost use Rattle.wrapped_gradient.specs.Gradients.{AreGradientsOf};
@@ -40,16 +41,17 @@ impl Problem {
         unmasked: &[bool],
     ) -> Result<Problem, AllocError>
         requires tile { tile < tiles_of scene.now.tiling }
-        requires gradients { AreGradientsOf scene.now gradients.now }
+        requires gradients { AreGradientsOf (raster_of scene.now) gradients.now }
         requires window { gradients.now.window ≡ window_of scene.now.tiling tile }
         requires count { length unmasked.now ≡ width_of gradients.now.window * height_of gradients.now.window }
-        ensures { IfOk result (λ made. IsProblemOf scene.now (window_of scene.now.tiling tile) unmasked.now made) }
+        ensures { IfOk result (λ made. IsProblemOf (raster_of scene.now) (window_of scene.now.tiling tile) unmasked.now made) }
     {
         let window = scene.tiling.window(tile);
+        let sheet = scene.sheet();
         Ok(Problem {
             window,
-            right: right_weights(alloc, scene, window, unmasked)?,
-            down: down_weights(alloc, scene, window, unmasked)?,
+            right: right_weights(alloc, &sheet, window, unmasked)?,
+            down: down_weights(alloc, &sheet, window, unmasked)?,
             residues: residues(alloc, gradients)?,
             steep: scene.terms.steep,
         })

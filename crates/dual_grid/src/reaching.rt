@@ -1,18 +1,17 @@
-ghost use Rattle.dual_grid.specs.Building.{AreTurnedFaces, IsRasterWindow, leaves, positive_sum};
+ghost use Rattle.dual_grid.specs.Building.{AreTurnedFaces, leaves, positive_sum};
 ghost use Rattle.dual_grid.specs.Grids.{amount_of};
 ghost use Rattle.dual_grid.specs.Layout.{AreLow, number_or_zero};
 ghost use Rattle.dual_grid.specs.Nodes.{cells_of, edges_of};
 ghost use Rattle.dual_grid.specs.Problems.{AreSmallNumbers};
+ghost use Rattle.raster_model.specs.Tiles.{IsRasterWindow};
 ghost use Rattle.std.specs.Int.{w64};
-ghost use Rattle.std.specs.Prelude.{◌≡◌, ◌==◌, ◌+◌, ◌<◌, ◌≤◌, ◌^◌, ◌+ℤ◌, ◌-ℤ◌, ◌≤ℤ◌, ℕ, FitsSigned, IfOk, IsTrue, get_or, length, pos, unsigned_abs};
+ghost use Rattle.std.specs.Prelude.{◌≡◌, ◌==◌, ◌+◌, ◌<◌, ◌≤◌, ◌+ℤ◌, ◌-ℤ◌, ◌≤ℤ◌, ℕ, FitsSigned, IfOk, IsTrue, get_or, length, pos, unsigned_abs};
 ghost use Rattle.sums_and_lists.specs.Sums.{sum_below, where_true};
 
 use crate::edge_numbers::{first_at, other_at};
+use crate::limits::{MAX_MOVED_EXCESS, MAX_REACHED_POTENTIAL};
 use raster_model::{MAX_NETWORK_NODES, Window};
 use std::alloc::{AllocError, Global};
-
-/// The farthest from 0 that a face may lie.
-const FACE_LIMIT: u64 = 17_179_869_184;
 
 /// Whether no face is too far from 0.
 pub(crate) fn are_low(faces: &[i64]) -> bool
@@ -20,7 +19,7 @@ pub(crate) fn are_low(faces: &[i64]) -> bool
     ensures told { AreLow faces.now → IsTrue result }
 {
     for face in faces {
-        if face.unsigned_abs() > FACE_LIMIT {
+        if face.unsigned_abs() > MAX_REACHED_POTENTIAL {
             return false;
         }
     }
@@ -73,7 +72,7 @@ pub(crate) fn move_flows(window: Window, flows: &[i32], excesses: &mut Vec<i64>)
     requires small { (u : ℕ) → unsigned_abs (number_or_zero excesses.old.items u) ≤ MAX_NETWORK_NODES }
     ensures length { length excesses.new.items ≡ cells_of window + 1 }
     ensures moved { (u : ℕ) → number_or_zero excesses.new.items u ≡ number_or_zero excesses.old.items u -ℤ sum_below (edges_of window) (leaves window (number_or_zero flows.now) u) }
-    ensures small { (u : ℕ) → unsigned_abs (number_or_zero excesses.new.items u) ≤ 2 ^ 60 }
+    ensures small { (u : ℕ) → unsigned_abs (number_or_zero excesses.new.items u) ≤ MAX_MOVED_EXCESS }
 {
     for edge in 0..flows.len() {
         let flow = i64::from(flows[edge]);

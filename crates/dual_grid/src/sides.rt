@@ -1,5 +1,5 @@
-ghost use Rattle.dual_grid.specs.Building.{IsRasterWindow};
 ghost use Rattle.dual_grid.specs.Nodes.{cells_of, first_side, node_above as above_of, node_at, node_left as left_of, other_side};
+ghost use Rattle.raster_model.specs.Tiles.{IsRasterWindow};
 ghost use Rattle.std.specs.Prelude.{◌≡◌, ◌≤◌};
 ghost use Rattle.wrapped_gradient.specs.Windows.{IsEdgeOf};
 

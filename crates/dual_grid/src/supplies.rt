@@ -1,5 +1,6 @@
-ghost use Rattle.dual_grid.specs.Building.{AreCellSupplies, IsRasterWindow, sum_of_first};
+ghost use Rattle.dual_grid.specs.Building.{AreCellSupplies, sum_of_first};
 ghost use Rattle.dual_grid.specs.Nodes.{cells_of};
+ghost use Rattle.raster_model.specs.Tiles.{IsRasterWindow};
 ghost use Rattle.std.specs.Prelude.{◌≡◌, ◌-◌, ◌<◌, ◌≤◌, ℕ, IfOk, get_or, length, neg_ℤ, pos, unsigned_abs};
 ghost use Rattle.wrapped_gradient.specs.Gradients.{residue_at};
 ghost use Rattle.wrapped_gradient.specs.Rows.{AreInRows};

@@ -5,7 +5,7 @@ use Rattle.dual_grid.specs.Grids.{along, amount_of}
 use Rattle.dual_grid.proofs.arcs.residual_at.Goals as goal
 
 -- a difference in code at 32 bits
-plain : (most : ℕ) (a : ℤ) → most ≤ 16777216 → unsigned_abs a ≤ 16777217 → to_z w32 (of_z w32 (to_z w32 most -ℤ to_z w32 (of_z w32 a))) ≡ pos most -ℤ a
+plain : (most : ℕ) (a : ℤ) → most ≤ 268435456 → unsigned_abs a ≤ 268435457 → to_z w32 (of_z w32 (to_z w32 most -ℤ to_z w32 (of_z w32 a))) ≡ pos most -ℤ a
 plain most a few small = omega (arith, ints, few, small)
 
 pub returns-then-weight-eq0 : goal.returns-then-weight-eq0

@@ -49,7 +49,7 @@ add_at-requires-in-loop-edge-clause-fits c =
     let s = c.loop-edge.invariant.small c.other_at.result in
     let few = few_edges c.args.window c.requires.limited in
     let added = c.add_at.ensures.added c.other_at.result in
-    let w = where_small (c.other_at.result == c.first_at.result) (to_z w64 (of_z w64 (pos 0 -ℤ to_z w64 (of_z w64 c.from-flow.result)))) 16777216 (omega (arith, ints, e, q)) in
+    let w = where_small (c.other_at.result == c.first_at.result) (to_z w64 (of_z w64 (pos 0 -ℤ to_z w64 (of_z w64 c.from-flow.result)))) 268435456 (omega (arith, ints, e, q)) in
     omega (arith, ints, f, q, s, few, added, w, c.loop-edge-test.true, c.requires.edges)
 
 pub loop-edge-preserved : goal.loop-edge-preserved
@@ -63,5 +63,5 @@ loop-edge-preserved c =
     record {
       length = c.add_at-in-loop-edge.ensures.length ∙ c.add_at.ensures.length ∙ c.loop-edge.invariant.length;
       moved = λ u. moved_more c.args.window (number_or_zero c.args.flows.now) u c.loop-edge.edge c.first_at.result c.other_at.result _ _ _ (number_or_zero c.args.excesses.now.items u) turned flow c.first_at.ensures c.other_at.ensures e f (c.add_at.ensures.added u) (c.add_at-in-loop-edge.ensures.added u) (c.loop-edge.invariant.moved u);
-      small = λ u. small_more c.loop-edge.edge _ _ _ (where_true (u == c.first_at.result) turned) (where_true (u == c.other_at.result) flow) (where_small (u == c.first_at.result) turned 16777216 (omega (arith, ints, e, q))) (where_small (u == c.other_at.result) flow 16777216 (omega (arith, ints, f, q))) (c.add_at.ensures.added u) (c.add_at-in-loop-edge.ensures.added u) (c.loop-edge.invariant.small u);
+      small = λ u. small_more c.loop-edge.edge _ _ _ (where_true (u == c.first_at.result) turned) (where_true (u == c.other_at.result) flow) (where_small (u == c.first_at.result) turned 268435456 (omega (arith, ints, e, q))) (where_small (u == c.other_at.result) flow 268435456 (omega (arith, ints, f, q))) (c.add_at.ensures.added u) (c.add_at-in-loop-edge.ensures.added u) (c.loop-edge.invariant.small u);
     }

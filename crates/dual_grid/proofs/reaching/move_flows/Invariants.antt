@@ -10,5 +10,5 @@ abbrev pub invariant-loop-edge : goal.invariant-loop-edge
 invariant-loop-edge l = record {
   length : length l.excesses.items ≡ cells_of l.window + 1;
   moved : (u : ℕ) → number_or_zero l.excesses.items u ≡ number_or_zero l.initial.excesses.items u -ℤ sum_below l.edge (leaves l.window (number_or_zero l.flows) u);
-  small : (u : ℕ) → unsigned_abs (number_or_zero l.excesses.items u) ≤ 16777216 + l.edge * 33554432;
+  small : (u : ℕ) → unsigned_abs (number_or_zero l.excesses.items u) ≤ 268435456 + l.edge * 536870912;
 }

@@ -4,7 +4,6 @@ use Rattle.std.proofs.lemmas.List.{get_or-drop, get_or-take, length-take-le}
 use Rattle.raster_model.specs.declared.tiling.Window.{Window}
 use Rattle.raster_model.specs.Tilings.{tiled_by}
 use Rattle.raster_model.specs.Tiles.{IsTileWindow}
-use Rattle.raster_model.specs.Scene.{raster_of}
 use Rattle.dual_grid.specs.Answers.{AreCertifiedCorrections}
 use Rattle.dual_grid.specs.Starts.{TellsMask}
 use Rattle.dual_grid.specs.Building.{AreFaces, AreEdgeFlows}
@@ -23,10 +22,10 @@ split v flows right down r e count f g = (
 )
 
 pub returns : goal.returns
-returns c = λ s w unmasked mask grid tells tiles count t window. (
+returns c = λ raster w unmasked mask grid tells tiles count t window. (
     let g = c.args.self in
     let v = g.window in
-    let r = tiled_by (raster_of s) tiles count in
+    let r = tiled_by raster tiles count in
     let told = subst (λ (zs : List ℤ). AreFaces (number_or_zero zs) c.outside.result c.outside.result c.in_ok-faces.faces.items) c.deref.ensures.value c.in_ok-faces.ensures in
     let faces = subst (λ (n : ℕ). AreFaces (number_or_zero g.potentials.items) n n c.in_ok-faces.faces.items) c.outside.ensures told in
     let parts = split v g.flows.items c.split_off.new.self.items c.in_ok-down.down.items c.right_count.result c.right_count.ensures g.fit.by_edge c.in_ok-down.ensures.items c.in_ok-down.ensures.tail in

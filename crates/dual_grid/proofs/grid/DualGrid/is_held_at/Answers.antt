@@ -1,4 +1,4 @@
-use Rattle.std.proofs.Common.{◌≡◌, ◌≤◌, ◌^◌, ◌∙◌, ℕ, ap₂, sym, arith, w32, w64, to_z, of_z}
+use Rattle.std.proofs.Common.{◌≡◌, ◌≤◌, ◌∙◌, ℕ, ap₂, sym, arith, w32, w64, to_z, of_z}
 use Rattle.std.specs.Prelude.{ℤ, ◌-ℤ◌, unsigned_abs}
 use Rattle.std.proofs.lemmas.Int.{ints, to_z-of_z}
 use Rattle.dual_grid.specs.Building.{IsHeldBy}
@@ -14,7 +14,7 @@ pub bounds-potentials-other_at : goal.bounds-potentials-other_at
 bounds-potentials-other_at c = let l = other_below c.args.self.now.window (edge_of c.args.self.now.window c.args.edge) in omega (arith, l, c.other_at.ensures, c.requires.nodes)
 
 -- a difference of low potentials in code at 64 bits
-difference : (m n : ℤ) → unsigned_abs m ≤ 2 ^ 34 → unsigned_abs n ≤ 2 ^ 34 → to_z w64 (of_z w64 (to_z w64 (of_z w64 m) -ℤ to_z w64 (of_z w64 n))) ≡ m -ℤ n
+difference : (m n : ℤ) → unsigned_abs m ≤ 1073741824 → unsigned_abs n ≤ 1073741824 → to_z w64 (of_z w64 (to_z w64 (of_z w64 m) -ℤ to_z w64 (of_z w64 n))) ≡ m -ℤ n
 difference m n k l = omega (arith, ints, k, l)
 
 same : (s n m : ℕ) (d e k i : ℤ) → n ≡ m → d ≡ e → k ≡ i → IsHeldBy s n d k → IsHeldBy s m e i

@@ -1,5 +1,6 @@
 use Rattle.std.proofs.Common.{◌≡◌, ◌+◌, ◌++◌, ℕ, List, arith, length, subst, sym}
 use Rattle.std.specs.Prelude.{ℤ, IfNone, IfSome, Option, Some, None}
+use Rattle.raster_model.specs.Sheets.{sheet_raster}
 use Rattle.flow_network.specs.Nets.{Shape}
 use Rattle.dual_grid.specs.declared.grid.DualGrid.{DualGrid}
 use Rattle.dual_grid.specs.Answers.{StaysNearStart}
@@ -23,7 +24,7 @@ if_grid None P Q R f p q = tt
 pub returns-clause-grid : goal.returns-clause-grid
 returns-clause-grid c =
     let start = c.in_ok-start.start in
-    if_grid c.after.result _ _ _ (λ grid origin _. grid_stays c.args.scene.now c.args.gradients.now.window c.args.unmasked.now start grid origin c.in_ok-start.ensures.grid) c.after.ensures.origin c.after.ensures.low
+    if_grid c.after.result _ _ _ (λ grid origin _. grid_stays (sheet_raster c.args.sheet.now) c.args.gradients.now.window c.args.unmasked.now start grid origin c.in_ok-start.ensures.grid) c.after.ensures.origin c.after.ensures.low
 
 pub returns-clause-near : goal.returns-clause-near
 returns-clause-near c =
@@ -52,7 +53,7 @@ pub returns-then-faces-len-clause-none : goal.returns-then-faces-len-clause-none
 returns-then-faces-len-clause-none c =
     λ m.
     let start = c.in_ok-start.start in
-    let told = faces_told c.args.scene.now c.args.gradients.now.window c.args.unmasked.now start c.in_ok-start.ensures.grid c.in_ok-start.ensures.start c.args.corrections c.args.faces.now m in
+    let told = faces_told (sheet_raster c.args.sheet.now) c.args.gradients.now.window c.args.unmasked.now start c.in_ok-start.ensures.grid c.in_ok-start.ensures.start c.args.corrections c.args.faces.now m in
     elim c.then-faces-len.branch [
       | then-faces-len-via-then-faces-len w ↦ omega (arith, w.if-faces-len.true, c.len.ensures, start.potentials.ok.0, told)
       | then-faces-len-via-else-faces-len+then-not-are_low w ↦ true_and_false w.are_low.result (w.are_low.ensures.told m.low) w.if-not-are_low.true
@@ -61,7 +62,7 @@ returns-then-faces-len-clause-none c =
 pub returns-then-len-right_count-clause-none : goal.returns-then-len-right_count-clause-none
 returns-then-len-right_count-clause-none c =
     λ m.
-    let told = rights_told c.args.scene.now c.args.gradients.now.window c.args.unmasked.now c.in_ok-start.start c.in_ok-start.ensures.grid c.in_ok-start.ensures.start c.args.corrections c.args.faces.now m in
+    let told = rights_told (sheet_raster c.args.sheet.now) c.args.gradients.now.window c.args.unmasked.now c.in_ok-start.start c.in_ok-start.ensures.grid c.in_ok-start.ensures.start c.args.corrections c.args.faces.now m in
     omega (arith, c.if-len-right_count.true, c.len-2.ensures, c.right_count.ensures, c.args.corrections.right.ok.0, told)
 
 pub returns-clause-flows : goal.returns-clause-flows
@@ -80,8 +81,8 @@ returns-clause-may c =
     let potentials = c.in_ok-potentials.potentials.items in
     let rights : length k.right.items ≡ rights_of start.window = omega (arith, c.if-len-right_count.false, c.len-2.ensures, c.right_count.ensures, k.right.ok.0) in
     let count : length faces + 1 ≡ length start.potentials.items = omega (arith, c.if-faces-len.false, c.len.ensures, start.potentials.ok.0) in
-    if_some c.after.result (GridGoesOn start (k.right.items ++ k.down.items) potentials) (MayGoOn c.args.scene.now c.args.gradients.now.window c.args.unmasked.now k faces)
-    (grid_goes_on c.args.scene.now c.args.gradients.now.window c.args.unmasked.now start c.in_ok-start.ensures.grid c.in_ok-start.ensures.start k faces rights potentials c.in_ok-potentials.ensures count (c.are_low.ensures.low c.if-not-are_low.false))
+    if_some c.after.result (GridGoesOn start (k.right.items ++ k.down.items) potentials) (MayGoOn (sheet_raster c.args.sheet.now) c.args.gradients.now.window c.args.unmasked.now k faces)
+    (grid_goes_on (sheet_raster c.args.sheet.now) c.args.gradients.now.window c.args.unmasked.now start c.in_ok-start.ensures.grid c.in_ok-start.ensures.start k faces rights potentials c.in_ok-potentials.ensures count (c.are_low.ensures.low c.if-not-are_low.false))
     (subst (λ (zs : List ℤ). IfSome c.after.result (λ (grid : DualGrid). GridGoesOn start zs potentials)) c.in_ok-append.ensures.items c.after.ensures.together)
 
 pub returns-clause-none : goal.returns-clause-none
@@ -91,6 +92,6 @@ returns-clause-none c =
     let faces = c.args.faces.now in
     let potentials = c.in_ok-potentials.potentials.items in
     let rights : length k.right.items ≡ rights_of start.window = omega (arith, c.if-len-right_count.false, c.len-2.ensures, c.right_count.ensures, k.right.ok.0) in
-    if_none c.after.result (GridGoesOn start (k.right.items ++ k.down.items) potentials) (MayGoOn c.args.scene.now c.args.gradients.now.window c.args.unmasked.now k faces)
-    (grid_together c.args.scene.now c.args.gradients.now.window c.args.unmasked.now start c.in_ok-start.ensures.grid c.in_ok-start.ensures.start k faces rights potentials c.in_ok-potentials.ensures)
+    if_none c.after.result (GridGoesOn start (k.right.items ++ k.down.items) potentials) (MayGoOn (sheet_raster c.args.sheet.now) c.args.gradients.now.window c.args.unmasked.now k faces)
+    (grid_together (sheet_raster c.args.sheet.now) c.args.gradients.now.window c.args.unmasked.now start c.in_ok-start.ensures.grid c.in_ok-start.ensures.start k faces rights potentials c.in_ok-potentials.ensures)
     (subst (λ (zs : List ℤ). IfNone c.after.result (GridGoesOn start zs potentials → ⊥)) c.in_ok-append.ensures.items c.after.ensures.none)

@@ -1,14 +1,13 @@
 -- For callers whose window has no residue and whose corrections are all 0: what `integrate` asks then holds, and over the whole raster its surface is the best.
-use Rattle.std.proofs.Common.{◌≡◌, ◌∙◌, ℕ, ◌+◌, ◌-◌, ◌*◌, sym, arith, Bool, true, false, List, replicate, inl, inr}
+use Rattle.std.proofs.Common.{◌≡◌, ◌∙◌, ℕ, ◌+◌, ◌-◌, ◌*◌, ◌≤◌, sym, arith, Bool, true, false, List, replicate, inl, inr}
 use Rattle.std.specs.Prelude.{ℤ, pos, neg_ℤ, ◌+ℤ◌, ◌-ℤ◌, IsTrue, slice_index_or}
 use Rattle.std.proofs.lemmas.Int.{ints}
 use Rattle.std.proofs.lemmas.List.{get_or-replicate, get_or_past, length-replicate}
 use Rattle.raster_model.specs.declared.edge.Edge.{Edge}
-use Rattle.raster_model.specs.declared.scene.Scene.{Scene}
 use Rattle.raster_model.specs.declared.tiling.Window.{Window}
 use Rattle.raster_model.specs.Best.{HasNoDepartures, IsBest}
+use Rattle.raster_model.specs.Limits.{max_side}
 use Rattle.raster_model.specs.Raster.{Raster, lifted, residue, tile_cost, seam_cost}
-use Rattle.raster_model.specs.Scene.{raster_of}
 use Rattle.raster_model.specs.Sums.{Field, end_x, end_y, is_edge, right_edge, down_edge}
 use Rattle.raster_model.proofs.Exact.{lifted_is_congruent}
 use Rattle.raster_model.proofs.Flat.{no_departures_are_best, tile_cost-flat, seam_cost-flat}
@@ -41,11 +40,11 @@ zero_at v k z e = go e.x e.y e.down
     go x y false = z.rights ((y - v.y0) * (width_of v - 1) + (x - v.x0))
 
 -- they cancel residues that are all 0
-pub zeros_cancel : (s : Scene) (g : GradientsView) (k : Corrections) → AreGradientsOf s g → HasNoResidue g → AreZero k → CancelResidues (raster_of s) g.window k
-zeros_cancel s g k h none z x y i =
-    nothing (correction_at g.window k (right_edge x y)) (correction_at g.window k (down_edge (x + 1) y)) (correction_at g.window k (right_edge x (y + 1))) (correction_at g.window k (down_edge x y)) (residue (raster_of s) x y)
+pub zeros_cancel : (r : Raster) (g : GradientsView) (k : Corrections) → AreGradientsOf r g → HasNoResidue g → AreZero k → CancelResidues r g.window k
+zeros_cancel r g k h none z x y i =
+    nothing (correction_at g.window k (right_edge x y)) (correction_at g.window k (down_edge (x + 1) y)) (correction_at g.window k (right_edge x (y + 1))) (correction_at g.window k (down_edge x y)) (residue r x y)
     (zero_at g.window k z (right_edge x y)) (zero_at g.window k z (down_edge (x + 1) y)) (zero_at g.window k z (right_edge x (y + 1))) (zero_at g.window k z (down_edge x y))
-    (sym (residues_are s g h x y i) ∙ none x y i)
+    (sym (residues_are r g h x y i) ∙ none x y i)
   where
     nothing : (p q b l t : ℤ) → p ≡ pos 0 → q ≡ pos 0 → b ≡ pos 0 → l ≡ pos 0 → t ≡ pos 0 → p +ℤ q -ℤ b -ℤ l ≡ neg_ℤ t
     nothing p q b l t d e f g h = rw (d, e, f, g, h) (omega (arith, ints))
@@ -56,12 +55,10 @@ zeros_greatest k z =
     omega (arith, l)
 
 -- and are small over every window of a raster
-pub zeros_small : (s : Scene) (g : GradientsView) (k : Corrections) → AreGradientsOf s g → AreZero k → AreSmall g.window k
-zeros_small s g k h z =
+pub zeros_small : (r : Raster) (g : GradientsView) (k : Corrections) → r.width ≤ max_side → r.height ≤ max_side → AreGradientsOf r g → AreZero k → AreSmall g.window k
+zeros_small r g k wide high h z =
     let a = h.inside.across in
     let b = h.inside.along in
-    let wide = s.wide in
-    let high = s.high in
     rw (zeros_greatest k z) (omega (arith, a, b, wide, high))
 
 -- the window is the whole raster

@@ -4,14 +4,17 @@ use Rattle.std.specs.Prelude.{ℤ, neg_ℤ, ◌+ℤ◌, ◌-ℤ◌, map, unsigne
 use Rattle.std.proofs.lemmas.Int.{ints}
 use Rattle.std.proofs.lemmas.List.{map-id}
 use Rattle.raster_model.specs.declared.edge.Edge.{Edge}
-use Rattle.raster_model.specs.declared.scene.Scene.{Scene}
+use Rattle.raster_model.specs.declared.sheet.Sheet.{Sheet}
 use Rattle.raster_model.specs.declared.tiling.Window.{Window}
 use Rattle.raster_model.specs.Raster.{Raster, cycle_departure, turns_of}
-use Rattle.raster_model.specs.Scene.{raster_of}
-use Rattle.raster_model.specs.Sums.{right_edge, down_edge}
+use Rattle.raster_model.specs.Sheets.{sheet_raster}
+use Rattle.raster_model.specs.Tilings.{tiled_by}
+use Rattle.raster_model.specs.Sums.{Field, right_edge, down_edge}
 use Rattle.raster_model.proofs.Exact.{cycles_depart}
 use Rattle.raster_model.proofs.TileLeast.{residue_is}
 use Rattle.wrapped_gradient.specs.declared.corrections.Corrections.{Corrections}
+use Rattle.wrapped_gradient.specs.Gradients.{AreGradientsOf}
+use Rattle.wrapped_gradient.specs.GradientsView.{GradientsView}
 use Rattle.wrapped_gradient.specs.Corrections.{CancelResidues, correction_at, greatest_of}
 use Rattle.raster_model.specs.Tiles.{height_of}
 use Rattle.wrapped_gradient.specs.Windows.{IsEdgeOf}
@@ -66,13 +69,13 @@ module _ (r : Raster) (v : Window) (k : Corrections) (zs : List ℤ) (across : v
       go x y false i = right_departs x y i.start.0 (omega (arith, i.end.1)) i.start.2 i.start.3
       go x y true i = down_departs x y i.start.0 i.start.1 i.start.2 (omega (arith, i.end.3))
 
-pub rise_small : (s : Scene) (v : Window) (k : Corrections) (e : Edge) → unsigned_abs (rise_of (raster_of s) v k e) ≤ greatest_of k + 1
+pub rise_small : (s : Sheet) (v : Window) (k : Corrections) (e : Edge) → unsigned_abs (rise_of (sheet_raster s) v k e) ≤ greatest_of k + 1
 rise_small s v k e =
-    let p = rise_bounded (correction_at v k e) (turns_of (raster_of s) e) (turns_of_small s e) in
+    let p = rise_bounded (correction_at v k e) (turns_of (sheet_raster s) e) (turns_of_small s e) in
     let q = correction_within v k e in
     omega (arith, p, q)
 
-module _ (s : Scene) (v : Window) (k : Corrections) (zs : List ℤ) (across : v.x0 ≤ v.x1) (filled : IsFilled (raster_of s) v k (height_of v) zs) where
+module _ (s : Sheet) (v : Window) (k : Corrections) (zs : List ℤ) (across : v.x0 ≤ v.x1) (filled : IsFilled (sheet_raster s) v k (height_of v) zs) where
   first_small : (n y : ℕ) → y ≡ v.y0 + n → y ≤ v.y1 → unsigned_abs (cycles_at v zs v.x0 y) ≤ n * (greatest_of k + 1)
   first_small zero y e d =
       let f : y ≡ v.y0 = omega (arith, e) in
@@ -81,7 +84,7 @@ module _ (s : Scene) (v : Window) (k : Corrections) (zs : List ℤ) (across : v.
   first_small (suc n) y e d =
       let f : v.y0 + n + 1 ≡ y = omega (arith, e) in
       let more : unsigned_abs (cycles_at v zs v.x0 (v.y0 + n + 1)) ≤ (n + 1) * (greatest_of k + 1) =
-      rw (filled.downs (v.y0 + n) (omega arith) (omega (arith, e, d))) (bound_next (cycles_at v zs v.x0 (v.y0 + n)) (rise_of (raster_of s) v k (down_edge v.x0 (v.y0 + n))) n (greatest_of k + 1) (first_small n (v.y0 + n) (omega arith) (omega (arith, e, d))) (rise_small s v k (down_edge v.x0 (v.y0 + n)))) in
+      rw (filled.downs (v.y0 + n) (omega arith) (omega (arith, e, d))) (bound_next (cycles_at v zs v.x0 (v.y0 + n)) (rise_of (sheet_raster s) v k (down_edge v.x0 (v.y0 + n))) n (greatest_of k + 1) (first_small n (v.y0 + n) (omega arith) (omega (arith, e, d))) (rise_small s v k (down_edge v.x0 (v.y0 + n)))) in
       let g : n + 1 ≡ suc n = omega arith in
       subst (λ (u : ℕ). unsigned_abs (cycles_at v zs v.x0 u) ≤ suc n * (greatest_of k + 1)) f (subst (λ (m : ℕ). unsigned_abs (cycles_at v zs v.x0 (v.y0 + n + 1)) ≤ m * (greatest_of k + 1)) g more)
 
@@ -94,7 +97,7 @@ module _ (s : Scene) (v : Window) (k : Corrections) (zs : List ℤ) (across : v.
   row_small (suc n) x y e b c d =
       let f : v.x0 + n + 1 ≡ x = omega (arith, e) in
       let more : unsigned_abs (cycles_at v zs (v.x0 + n + 1) y) ≤ (n + (y - v.y0) + 1) * (greatest_of k + 1) =
-      rw (filled.rights (v.x0 + n) y (omega arith) (omega (arith, e, b)) c (omega (arith, d))) (bound_next (cycles_at v zs (v.x0 + n) y) (rise_of (raster_of s) v k (right_edge (v.x0 + n) y)) (n + (y - v.y0)) (greatest_of k + 1) (row_small n (v.x0 + n) y (omega arith) (omega (arith, e, b)) c d) (rise_small s v k (right_edge (v.x0 + n) y))) in
+      rw (filled.rights (v.x0 + n) y (omega arith) (omega (arith, e, b)) c (omega (arith, d))) (bound_next (cycles_at v zs (v.x0 + n) y) (rise_of (sheet_raster s) v k (right_edge (v.x0 + n) y)) (n + (y - v.y0)) (greatest_of k + 1) (row_small n (v.x0 + n) y (omega arith) (omega (arith, e, b)) c d) (rise_small s v k (right_edge (v.x0 + n) y))) in
       let g : n + (y - v.y0) + 1 ≡ suc n + (y - v.y0) = omega arith in
       subst (λ (u : ℕ). unsigned_abs (cycles_at v zs u y) ≤ (suc n + (y - v.y0)) * (greatest_of k + 1)) f (subst (λ (m : ℕ). unsigned_abs (cycles_at v zs (v.x0 + n + 1) y) ≤ m * (greatest_of k + 1)) g more)
 
@@ -104,3 +107,13 @@ module _ (s : Scene) (v : Window) (k : Corrections) (zs : List ℤ) (across : v.
 -- numbers that are kept as they are
 pub kept_plainly : (r : Raster) (v : Window) (k : Corrections) (zs : List ℤ) → AreIntegrated r v k (map (λ (z : ℤ). z) zs) → AreIntegrated r v k zs
 kept_plainly r v k zs are = subst (AreIntegrated r v k) (map-id zs) are
+
+-- what holds of a raster holds of it with other tiles
+pub gradients_tiled : (r : Raster) (tile : Field ℕ) (n : ℕ) (g : GradientsView) → AreGradientsOf r g → AreGradientsOf (tiled_by r tile n) g
+gradients_tiled r tile n g h = record { inside = h.inside; differences = h.differences }
+
+-- and the other way round, for numbers that are kept as they are
+pub kept_retiled : (r : Raster) (tile : Field ℕ) (n : ℕ) (whole : Raster) (v : Window) (k : Corrections) (zs : List ℤ) → whole ≡ tiled_by r tile n → AreIntegrated whole v k (map (λ (z : ℤ). z) zs) → AreIntegrated r v k zs
+kept_retiled r tile n whole v k zs e are =
+    let same = kept_plainly (tiled_by r tile n) v k zs (subst (λ (other : Raster). AreIntegrated other v k (map (λ (z : ℤ). z) zs)) e are) in
+    record { count = same.count; first = same.first; departs = same.departs; bounded = same.bounded }

@@ -4,12 +4,12 @@ use Rattle.std.specs.Prelude.{ℤ, pos, negsuc, ◌-ℤ◌, int_div, unsigned_ab
 use Rattle.std.proofs.lemmas.Int.{ints}
 use Rattle.std.proofs.lemmas.List.{get_or_read_under}
 use Rattle.raster_model.specs.declared.edge.Edge.{Edge}
-use Rattle.raster_model.specs.declared.scene.Scene.{Scene}
+use Rattle.raster_model.specs.declared.sheet.Sheet.{Sheet}
 use Rattle.raster_model.specs.declared.tiling.Window.{Window}
 use Rattle.raster_model.specs.Phase.{turns_by}
 use Rattle.raster_model.specs.Planes.{plane_sample}
 use Rattle.raster_model.specs.Raster.{gradient, turns_of}
-use Rattle.raster_model.specs.Scene.{raster_of}
+use Rattle.raster_model.specs.Sheets.{sheet_raster}
 use Rattle.raster_model.specs.Sums.{end_x, end_y, right_edge, down_edge}
 use Rattle.raster_model.specs.Terms.{slope_of}
 use Rattle.raster_model.proofs.PhaseLemmas.{edge_exact, slope_in_range, turns_small}
@@ -60,28 +60,28 @@ greatest_small v k h = two_sides (v.x1 - v.x0) (v.y1 - v.y0) (greatest_of k) h
 pub rise_widened : (k : Corrections) (d u : ℤ) → greatest_of k < 2147483647 → unsigned_abs d ≤ greatest_of k + 1 → u ≡ to_z w32 (of_z w32 d) → (u ≡ d) × (unsigned_abs u ≤ greatest_of k + 1)
 rise_widened k d u small l e = (omega (arith, ints, small, l, e), omega (arith, ints, small, l, e))
 
--- the phases of a scene have 16 bits, so the wrapped difference of an edge leaves out at most one cycle
-phase_small : (s : Scene) (x y : ℕ) → plane_sample s.phase x y < 65536
-phase_small s x y = let h = s.phase.below (y * s.phase.width + x) in omega (arith, h, s.cycle)
+-- the phases of a sheet have 16 bits, so the wrapped difference of an edge leaves out at most one cycle
+phase_small : (s : Sheet) (x y : ℕ) → plane_sample s.phase.now x y < 65536
+phase_small s x y = let h = s.phase.now.below (y * s.phase.now.width + x) in omega (arith, h, s.cycle)
 
-pub turns_of_small : (s : Scene) (e : Edge) → unsigned_abs (turns_of (raster_of s) e) ≤ 1
-turns_of_small s e = turns_small (slope_of s.terms e.down) (plane_sample s.phase e.x e.y) (plane_sample s.phase (end_x e) (end_y e)) (slope_in_range s.terms e.down) (phase_small s e.x e.y) (phase_small s (end_x e) (end_y e))
+pub turns_of_small : (s : Sheet) (e : Edge) → unsigned_abs (turns_of (sheet_raster s) e) ≤ 1
+turns_of_small s e = turns_small (slope_of s.terms e.down) (plane_sample s.phase.now e.x e.y) (plane_sample s.phase.now (end_x e) (end_y e)) (slope_in_range s.terms e.down) (phase_small s e.x e.y) (phase_small s (end_x e) (end_y e))
 
 -- what it leaves, as code reads it
-module _ (s : Scene) (e : Edge) (a b : ℕ) (d : ℤ) (start : a ≡ plane_sample s.phase e.x e.y) (end : b ≡ plane_sample s.phase (end_x e) (end_y e)) (wrapped : d ≡ gradient (raster_of s) e) where
+module _ (s : Sheet) (e : Edge) (a b : ℕ) (d : ℤ) (start : a ≡ plane_sample s.phase.now e.x e.y) (end : b ≡ plane_sample s.phase.now (end_x e) (end_y e)) (wrapped : d ≡ gradient (sheet_raster s) e) where
   pub left_near : unsigned_abs (pos b -ℤ pos a -ℤ d) ≤ 131071
   left_near =
-      let t = edge_exact (raster_of s) e in
+      let t = edge_exact (sheet_raster s) e in
       rw (start, end, wrapped) (omega (arith, ints, t, turns_of_small s e))
 
-  pub left_out : int_div (pos b -ℤ pos a -ℤ d) (pos 65536) ≡ turns_of (raster_of s) e
+  pub left_out : int_div (pos b -ℤ pos a -ℤ d) (pos 65536) ≡ turns_of (sheet_raster s) e
   unfolding turns_by
   left_out = rw (start, end, wrapped) refl
 
-  pub rise_told : (v : Window) (k : Corrections) (z t : ℤ) → z ≡ correction_at v k e → t ≡ z -ℤ int_div (pos b -ℤ pos a -ℤ d) (pos 65536) → t ≡ rise_of (raster_of s) v k e
+  pub rise_told : (v : Window) (k : Corrections) (z t : ℤ) → z ≡ correction_at v k e → t ≡ z -ℤ int_div (pos b -ℤ pos a -ℤ d) (pos 65536) → t ≡ rise_of (sheet_raster s) v k e
   rise_told v k z t held made = made ∙ rw (held, left_out) refl
 
-module _ (s : Scene) (g : GradientsView) (k : Corrections) where
+module _ (s : Sheet) (g : GradientsView) (k : Corrections) where
   -- what the lists hold for an edge
   pub correction_right : (v : Window) (x y : ℕ) (z : ℤ) → HasShapeOf g.window k → v ≡ g.window → (g.window.x0 ≤ x) × (x < g.window.x1) → (g.window.y0 ≤ y) × (y ≤ g.window.y1) → z ≡ slice_index_or k.right.items ((y - v.y0) * (v.x1 - v.x0) + (x - v.x0)) z → z ≡ correction_at g.window k (right_edge x y)
   correction_right v x y z shape e across along read =
@@ -105,10 +105,10 @@ module _ (s : Scene) (g : GradientsView) (k : Corrections) where
       refl_length : length k.down.items ≡ length k.down.items
       refl_length = omega arith
 
-  pub right_gradient : (x y : ℕ) (z : ℤ) → AreGradientsOf s g → (g.window.x0 ≤ x) × (x < g.window.x1) → (g.window.y0 ≤ y) × (y ≤ g.window.y1) → z ≡ gradient_at g (right_edge x y) → z ≡ gradient (raster_of s) (right_edge x y)
+  pub right_gradient : (x y : ℕ) (z : ℤ) → AreGradientsOf (sheet_raster s) g → (g.window.x0 ≤ x) × (x < g.window.x1) → (g.window.y0 ≤ y) × (y ≤ g.window.y1) → z ≡ gradient_at g (right_edge x y) → z ≡ gradient (sheet_raster s) (right_edge x y)
   right_gradient x y z h across along e = e ∙ h.differences (right_edge x y) (right_edge_of g.window x y across.0 across.1 along.0 along.1)
 
-  pub down_gradient : (x y : ℕ) (z : ℤ) → AreGradientsOf s g → (g.window.x0 ≤ x) × (x ≤ g.window.x1) → (g.window.y0 ≤ y) × (y < g.window.y1) → z ≡ gradient_at g (down_edge x y) → z ≡ gradient (raster_of s) (down_edge x y)
+  pub down_gradient : (x y : ℕ) (z : ℤ) → AreGradientsOf (sheet_raster s) g → (g.window.x0 ≤ x) × (x ≤ g.window.x1) → (g.window.y0 ≤ y) × (y < g.window.y1) → z ≡ gradient_at g (down_edge x y) → z ≡ gradient (sheet_raster s) (down_edge x y)
   down_gradient x y z h across along e = e ∙ h.differences (down_edge x y) (down_edge_of g.window x y across.0 across.1 along.0 along.1)
 
 -- a correction is small, and so is a rise

@@ -1,5 +1,5 @@
 -- A row of cycles, pixel by pixel.
-use Rattle.std.proofs.Common.{◌≡◌, ◌∙◌, ℕ, ◌+◌, ◌-◌, ◌*◌, ◌^◌, ◌<◌, ◌≤◌, sym, ap, subst, refl, arith, to_z, of_z, w64, List, [], ◌∷◌, ◌++◌, length, below_more}
+use Rattle.std.proofs.Common.{◌≡◌, ◌∙◌, ℕ, ◌+◌, ◌-◌, ◌*◌, ◌<◌, ◌≤◌, sym, ap, subst, refl, arith, to_z, of_z, w64, List, [], ◌∷◌, ◌++◌, length, below_more}
 use mir.Syntax.{Width}
 use Rattle.std.specs.Prelude.{ℤ, pos, ◌+ℤ◌, map, unsigned_abs, slice_index_or, FitsSigned}
 use Rattle.std.proofs.lemmas.Int.{ints, to_z-of_z}
@@ -7,9 +7,11 @@ use Rattle.std.proofs.lemmas.Nat.{mul-le}
 use Rattle.std.proofs.Math.Nat.{mul-le-mul_left}
 use Rattle.std.proofs.Math.Seq.{get_or-append_seam}
 use Rattle.std.proofs.lemmas.List.{get_or_append_left, length-append, map-append}
-use Rattle.raster_model.specs.declared.scene.Scene.{Scene}
+use Rattle.raster_model.specs.declared.limits.TheConstants.{MAX_REACHED_CYCLES}
+use Rattle.raster_model.specs.declared.sheet.Sheet.{Sheet}
 use Rattle.raster_model.specs.declared.tiling.Window.{Window}
 use Rattle.raster_model.specs.Raster.{Raster}
+use Rattle.raster_model.specs.Sheets.{sheet_raster}
 use Rattle.raster_model.specs.Sums.{Field, right_edge}
 use Rattle.raster_model.specs.Tiles.{width_of, height_of}
 use Rattle.wrapped_gradient.specs.declared.corrections.Corrections.{Corrections}
@@ -61,7 +63,7 @@ steps_fit z n w h m limit p l q = omega (arith, p, q, mul-le-mul_left m l)
 abbrev pub AreFitting : Width → ℕ → Type 0
 AreFitting bits limit = (z : ℤ) → unsigned_abs z ≤ limit → FitsSigned bits z
 
-pub fit_64 : AreFitting w64 17592186044416
+pub fit_64 : AreFitting w64 MAX_REACHED_CYCLES
 fit_64 z l = omega (arith, ints, l)
 
 -- as code adds them up, at so many bits
@@ -81,19 +83,19 @@ module _ (bits : Width) (limit : ℕ) (fit : AreFitting bits limit) (z d : ℤ) 
   pub sum_near : unsigned_abs (to_z bits (of_z bits (z +ℤ to_z bits (of_z bits d)))) ≤ (n + 1) * m
   sum_near = rw sum_plain (bound_next z d n m near step)
 
--- the cycles of a window of a scene stay within 44 bits, for corrections of 31
-pub wide_room : (s : Scene) (g : GradientsView) (k : Corrections) → AreGradientsOf s g → greatest_of k < 2147483647 → (width_of g.window + height_of g.window) * (greatest_of k + 1) ≤ 17592186044416
+-- the cycles of a window of a sheet stay within 48 bits, for corrections of 31
+pub wide_room : (s : Sheet) (g : GradientsView) (k : Corrections) → AreGradientsOf (sheet_raster s) g → greatest_of k < 2147483647 → (width_of g.window + height_of g.window) * (greatest_of k + 1) ≤ MAX_REACHED_CYCLES
 wide_room s g k h small =
     let a = h.inside.across in
     let b = h.inside.along in
-    let wide = s.wide in
-    let high = s.high in
-    mul-le (width_of g.window + height_of g.window) (greatest_of k + 1) 8192 2147483648 (omega (arith, a, b, wide, high)) (omega (arith, small))
+    let wide = s.phase.now.wide in
+    let high = s.phase.now.high in
+    mul-le (width_of g.window + height_of g.window) (greatest_of k + 1) 131072 2147483648 (omega (arith, a, b, wide, high)) (omega (arith, small))
 
-pub wide_within : (s : Scene) (g : GradientsView) (k : Corrections) (cycles : Field ℤ) → AreGradientsOf s g → greatest_of k < 2147483647 → StaySmall g.window cycles (greatest_of k) → LieWithin g.window cycles (2 ^ 44)
+pub wide_within : (s : Sheet) (g : GradientsView) (k : Corrections) (cycles : Field ℤ) → AreGradientsOf (sheet_raster s) g → greatest_of k < 2147483647 → StaySmall g.window cycles (greatest_of k) → LieWithin g.window cycles MAX_REACHED_CYCLES
 wide_within s g k cycles h small stay x y i =
     let v = g.window in
-    steps_fit (cycles x y) (x - v.x0 + (y - v.y0)) (width_of v) (height_of v) (greatest_of k + 1) 17592186044416 (stay x y i) (omega (arith, i)) (wide_room s g k h small)
+    steps_fit (cycles x y) (x - v.x0 + (y - v.y0)) (width_of v) (height_of v) (greatest_of k + 1) MAX_REACHED_CYCLES (stay x y i) (omega (arith, i)) (wide_room s g k h small)
 
 -- the same rows, as a loop writes them
 module _ (r : Raster) (v : Window) (k : Corrections) (y : ℕ) where

@@ -1,4 +1,4 @@
-ghost use Rattle.raster_model.specs.Scene.{raster_of};
+ghost use Rattle.raster_model.specs.Sheets.{sheet_raster};
 ghost use Rattle.raster_model.specs.Sums.{down_edge, right_edge};
 ghost use Rattle.std.specs.Prelude.{◌≡◌, ◌+◌, ◌<◌, ◌≤◌, ◌-ℤ◌, int_div, pos, unsigned_abs};
 ghost use Rattle.surface_integration.specs.Rows.{rise_of};
@@ -6,52 +6,52 @@ ghost use Rattle.wrapped_gradient.specs.Corrections.{HasShapeOf, greatest_of};
 ghost use Rattle.wrapped_gradient.specs.Gradients.{AreGradientsOf};
 
 use crate::limits::MAX_NARROW_CYCLES;
-use raster_model::Scene;
+use raster_model::Sheet;
 use wrapped_gradient::{Corrections, Gradients};
 
 /// The cycles by which the right neighbour of a pixel is higher.
 pub(crate) fn rise_right(
-    scene: &Scene,
+    sheet: &Sheet,
     gradients: &Gradients,
     corrections: &Corrections,
     x: u32,
     y: u32,
 ) -> i32
-    requires gradients { AreGradientsOf scene.now gradients.now }
+    requires gradients { AreGradientsOf (sheet_raster sheet.now) gradients.now }
     requires shape { HasShapeOf gradients.now.window corrections.now }
     requires small { greatest_of corrections.now < MAX_NARROW_CYCLES }
     requires across { (gradients.now.window.x0 ≤ x) × (x < gradients.now.window.x1) }
     requires along { (gradients.now.window.y0 ≤ y) × (y ≤ gradients.now.window.y1) }
-    ensures value { result ≡ rise_of (raster_of scene.now) gradients.now.window corrections.now (right_edge x y) }
+    ensures value { result ≡ rise_of (sheet_raster sheet.now) gradients.now.window corrections.now (right_edge x y) }
     ensures small { unsigned_abs result ≤ greatest_of corrections.now + 1 }
 {
     let window = gradients.window();
     let across = (window.x1 - window.x0) as usize;
     let place = (y - window.y0) as usize * across + (x - window.x0) as usize;
-    let from = scene.phase.sample(x, y);
-    let to = scene.phase.sample(x + 1, y);
+    let from = sheet.phase.sample(x, y);
+    let to = sheet.phase.sample(x + 1, y);
     rise(from, to, gradients.right(x, y), corrections.right[place])
 }
 
 /// The cycles by which the lower neighbour of a pixel is higher.
 pub(crate) fn rise_down(
-    scene: &Scene,
+    sheet: &Sheet,
     gradients: &Gradients,
     corrections: &Corrections,
     x: u32,
     y: u32,
 ) -> i32
-    requires gradients { AreGradientsOf scene.now gradients.now }
+    requires gradients { AreGradientsOf (sheet_raster sheet.now) gradients.now }
     requires shape { HasShapeOf gradients.now.window corrections.now }
     requires small { greatest_of corrections.now < MAX_NARROW_CYCLES }
     requires across { (gradients.now.window.x0 ≤ x) × (x ≤ gradients.now.window.x1) }
     requires along { (gradients.now.window.y0 ≤ y) × (y < gradients.now.window.y1) }
-    ensures value { result ≡ rise_of (raster_of scene.now) gradients.now.window corrections.now (down_edge x y) }
+    ensures value { result ≡ rise_of (sheet_raster sheet.now) gradients.now.window corrections.now (down_edge x y) }
     ensures small { unsigned_abs result ≤ greatest_of corrections.now + 1 }
 {
     let place = gradients.window().place(x, y);
-    let from = scene.phase.sample(x, y);
-    let to = scene.phase.sample(x, y + 1);
+    let from = sheet.phase.sample(x, y);
+    let to = sheet.phase.sample(x, y + 1);
     rise(from, to, gradients.down(x, y), corrections.down[place])
 }
 

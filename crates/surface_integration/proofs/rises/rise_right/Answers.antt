@@ -7,29 +7,29 @@ use Rattle.surface_integration.proofs.rises.rise_right.Goals as goal
 pub rise-requires-clause-near : goal.rise-requires-clause-near
 rise-requires-clause-near c =
     let fits : SFits w32 c.right.result = search rules in
-    left_near c.args.scene.now (right_edge c.args.x c.args.y) c.sample-from.result c.sample-to.result _ c.sample-from.ensures.value c.sample-to.ensures.value
-    (to_z-of_z w32 c.right.result fits ∙ right_gradient c.args.scene.now c.args.gradients.now c.args.corrections.now c.args.x c.args.y c.right.result c.requires.gradients c.requires.across c.requires.along c.right.ensures.value)
+    left_near c.args.sheet.now (right_edge c.args.x c.args.y) c.sample-from.result c.sample-to.result _ c.sample-from.ensures.value c.sample-to.ensures.value
+    (to_z-of_z w32 c.right.result fits ∙ right_gradient c.args.sheet.now c.args.gradients.now c.args.corrections.now c.args.x c.args.y c.right.result c.requires.gradients c.requires.across c.requires.along c.right.ensures.value)
 
 pub rise-requires-clause-small : goal.rise-requires-clause-small
 rise-requires-clause-small c =
     let fits : SFits w32 c.index.result.now = search rules in
-    let held = correction_right c.args.scene.now c.args.gradients.now c.args.corrections.now c.window-window.result c.args.x c.args.y c.index.result.now c.requires.shape c.window-window.ensures.value c.requires.across c.requires.along c.index.ensures in
+    let held = correction_right c.args.sheet.now c.args.gradients.now c.args.corrections.now c.window-window.result c.args.x c.args.y c.index.result.now c.requires.shape c.window-window.ensures.value c.requires.across c.requires.along c.index.ensures in
     correction_small c.args.gradients.now.window c.args.corrections.now (right_edge c.args.x c.args.y) _ c.requires.small (to_z-of_z w32 c.index.result.now fits ∙ held)
 
 pub returns-clause-value : goal.returns-clause-value
 returns-clause-value c =
     let fits : SFits w32 c.index.result.now = search rules in
-    let held = correction_right c.args.scene.now c.args.gradients.now c.args.corrections.now c.window-window.result c.args.x c.args.y c.index.result.now c.requires.shape c.window-window.ensures.value c.requires.across c.requires.along c.index.ensures in
+    let held = correction_right c.args.sheet.now c.args.gradients.now c.args.corrections.now c.window-window.result c.args.x c.args.y c.index.result.now c.requires.shape c.window-window.ensures.value c.requires.across c.requires.along c.index.ensures in
     let back : SFits w32 c.rise.result = search rules in
     let gradient : SFits w32 c.right.result = search rules in
     to_z-of_z w32 c.rise.result back
-    ∙ rise_told c.args.scene.now (right_edge c.args.x c.args.y) c.sample-from.result c.sample-to.result _ c.sample-from.ensures.value c.sample-to.ensures.value
-    (to_z-of_z w32 c.right.result gradient ∙ right_gradient c.args.scene.now c.args.gradients.now c.args.corrections.now c.args.x c.args.y c.right.result c.requires.gradients c.requires.across c.requires.along c.right.ensures.value)
+    ∙ rise_told c.args.sheet.now (right_edge c.args.x c.args.y) c.sample-from.result c.sample-to.result _ c.sample-from.ensures.value c.sample-to.ensures.value
+    (to_z-of_z w32 c.right.result gradient ∙ right_gradient c.args.sheet.now c.args.gradients.now c.args.corrections.now c.args.x c.args.y c.right.result c.requires.gradients c.requires.across c.requires.along c.right.ensures.value)
     c.args.gradients.now.window c.args.corrections.now (to_z w32 (of_z w32 c.index.result.now)) c.rise.result (to_z-of_z w32 c.index.result.now fits ∙ held) c.rise.ensures.value
 
 pub returns-clause-small : goal.returns-clause-small
 returns-clause-small c =
     let fits : SFits w32 c.index.result.now = search rules in
-    let held = correction_right c.args.scene.now c.args.gradients.now c.args.corrections.now c.window-window.result c.args.x c.args.y c.index.result.now c.requires.shape c.window-window.ensures.value c.requires.across c.requires.along c.index.ensures in
+    let held = correction_right c.args.sheet.now c.args.gradients.now c.args.corrections.now c.window-window.result c.args.x c.args.y c.index.result.now c.requires.shape c.window-window.ensures.value c.requires.across c.requires.along c.index.ensures in
     let back : SFits w32 c.rise.result = search rules in
     rw (to_z-of_z w32 c.rise.result back) (below_greatest c.args.gradients.now.window c.args.corrections.now (right_edge c.args.x c.args.y) (to_z w32 (of_z w32 c.index.result.now)) _ (to_z-of_z w32 c.index.result.now fits ∙ held) c.rise.ensures.small)

@@ -355,7 +355,7 @@ fn edge_costs<H: Heights>(
     ensures seams { pos result.seams ≡ seam_edge_cost (raster_of scene.now) (open_at mask.now) (lifted (raster_of scene.now) (H.cycles_at heights.now)) edge }
     ensures small { AreOfEdges 1 result }
 {
-    let cost = edge_cost(scene, mask, heights, edge, unmasked);
+    let cost = edge_cost(&scene.sheet(), mask, heights, edge, unmasked);
     if across {
         Costs {
             tiles: 0,

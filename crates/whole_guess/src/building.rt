@@ -1,11 +1,11 @@
 use crate::guess::Task;
 use crate::waters::{Ground, LAKE, SEA};
 use cell_forest::{Cell, FREE, OUTSIDE};
-use raster_model::{Mask, Scene, Terms, wrapped_ramp};
+use raster_model::{Mask, Sheet, Terms, wrapped_ramp};
 use std::alloc::{AllocError, Global};
 use std::mem;
 
-/// A pixel of a scene under a mask.
+/// A pixel of a sheet under a mask.
 #[derive(Clone, Copy)]
 struct Pixel {
     phase: u16,
@@ -71,7 +71,7 @@ impl Block {
         for row in 0..along {
             let y = y.wrapping_add(row);
             load(task, (x, y), across, &mut self.here)?;
-            self.build_row(task.scene, (x, y), row == 0)?;
+            self.build_row(task.sheet, (x, y), row == 0)?;
             if row > 0 {
                 self.list_row(row.wrapping_mul(across), across, listed)?;
             }
@@ -83,18 +83,18 @@ impl Block {
     /// Adds the cells of a row, from the pixel (`x`, `y`) on. All of them are outside, or the first.
     fn build_row(
         &mut self,
-        scene: &Scene,
+        sheet: &Sheet,
         (x, y): (u32, u32),
         outside: bool,
     ) -> Result<(), AllocError> {
-        let width = scene.phase.width;
-        let from_above = row(&scene.edges.down, y.wrapping_sub(1), width);
-        let from_left = row(&scene.edges.right, y, width.wrapping_sub(1));
+        let width = sheet.phase.width;
+        let from_above = row(&sheet.edges.down, y.wrapping_sub(1), width);
+        let from_left = row(&sheet.edges.right, y, width.wrapping_sub(1));
         let first = self.cells.len();
         let mut place = x;
-        let mut left = self.side(0, scene.terms);
+        let mut left = self.side(0, sheet.terms);
         for column in 1..self.here.len() {
-            let right = self.side(column, scene.terms);
+            let right = self.side(column, sheet.terms);
             let weights = [
                 number_at(from_above, place),
                 number_at(from_left, place.wrapping_sub(1)),
@@ -156,7 +156,7 @@ fn load(
     let first = x.wrapping_sub(1);
     pixels.clear();
     if are_open(task.mask, y, first, first.wrapping_add(across)) {
-        load_open(task.scene, (first, y), across, pixels)
+        load_open(task.sheet, (first, y), across, pixels)
     } else {
         load_each(task, (first, y), across, pixels)
     }
@@ -169,14 +169,14 @@ fn are_open(mask: &Mask, y: u32, first: u32, last: u32) -> bool {
 
 /// Loads the pixels of a row from (`x`, `y`) on, up to `across` behind it, all of which are open.
 fn load_open(
-    scene: &Scene,
+    sheet: &Sheet,
     (x, y): (u32, u32),
     across: u32,
     pixels: &mut Vec<Pixel>,
 ) -> Result<(), AllocError> {
-    let phases = row(&scene.phase.samples, y, scene.phase.width);
+    let phases = row(&sheet.phase.samples, y, sheet.phase.width);
     let first = x as usize;
-    let slope = scene.terms.slope(false);
+    let slope = sheet.terms.slope(false);
     let mut left: u16 = 0;
     for phase in phases
         .get(first..first + across as usize + 1)
@@ -200,9 +200,9 @@ fn load_each(
     across: u32,
     pixels: &mut Vec<Pixel>,
 ) -> Result<(), AllocError> {
-    let (scene, mask) = (task.scene, task.mask);
-    let phases = row(&scene.phase.samples, y, scene.phase.width);
-    let slope = scene.terms.slope(false);
+    let (sheet, mask) = (task.sheet, task.mask);
+    let phases = row(&sheet.phase.samples, y, sheet.phase.width);
+    let slope = sheet.terms.slope(false);
     let mut x = x;
     let mut left: u16 = 0;
     for _ in 0..across.wrapping_add(1) {

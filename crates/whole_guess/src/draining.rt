@@ -26,7 +26,7 @@ pub(crate) fn drain_sea(
         return Ok(());
     }
     let mut drainage = Drainage::of(alloc, task, cells.len())?;
-    drainage.find_mouths(cells, task.scene.phase.height)?;
+    drainage.find_mouths(cells, task.sheet.phase.height)?;
     drainage.follow_waters(cells, SEA)?;
     drainage.pour_all(cells, OUTSIDE);
     Ok(())
@@ -45,10 +45,10 @@ struct Drainage {
 impl Drainage {
     /// The drainage of as many cells, with nothing flowing yet.
     fn of(alloc: Global, task: &Task<'_>, count: usize) -> Result<Drainage, AllocError> {
-        let scene = task.scene;
-        let width = scene.phase.width;
-        let greatest = u32::from(scene.weights.maxval);
-        let mut forest = Forest::new(alloc, scene.terms.steep, greatest, count, task.patience)?;
+        let sheet = task.sheet;
+        let width = sheet.phase.width;
+        let greatest = u32::from(sheet.weights.maxval);
+        let mut forest = Forest::new(alloc, sheet.terms.steep, greatest, count, task.patience)?;
         forest.set_stride(width);
         Ok(Drainage {
             forest,

@@ -5,7 +5,7 @@ use crate::reaching::Reached;
 use crate::residues::has_residue;
 use crate::waters::Waters;
 use cell_forest::{BEYOND, Cell, PATIENCE, Stop};
-use raster_model::{Mask, Scene};
+use raster_model::{Mask, Sheet};
 use std::alloc::{AllocError, Global};
 use std::thread::Threads;
 
@@ -19,10 +19,10 @@ pub enum Guess {
     Reached(Reached),
 }
 
-/// A scene under a mask, and how it is solved.
+/// A sheet under a mask, and how it is solved.
 #[derive(Drop)]
 pub(crate) struct Task<'a> {
-    pub(crate) scene: &'a Scene,
+    pub(crate) sheet: &'a Sheet<'a>,
     pub(crate) mask: &'a Mask,
     pub(crate) waters: &'a Waters,
     /// How many arcs are followed at most for each cell.
@@ -36,49 +36,49 @@ pub(crate) struct Task<'a> {
 pub fn guess_whole<R: Threads + Sync>(
     rt: &R,
     alloc: Global,
-    scene: &Scene,
+    sheet: &Sheet,
     mask: &Mask,
     workers: u32,
 ) -> Result<Guess, AllocError> {
-    guess_whole_within(rt, alloc, scene, mask, workers, PATIENCE)
+    guess_whole_within(rt, alloc, sheet, mask, workers, PATIENCE)
 }
 
 /// Guesses as `guess_whole` does, but gives up after `patience` steps for each cell of a strip of blocks.
 pub fn guess_whole_within<R: Threads + Sync>(
     rt: &R,
     alloc: Global,
-    scene: &Scene,
+    sheet: &Sheet,
     mask: &Mask,
     workers: u32,
     patience: u64,
 ) -> Result<Guess, AllocError> {
-    let (cells, is_solved) = solve_cells(rt, alloc, scene, mask, workers, patience)?;
+    let (cells, is_solved) = solve_cells(rt, alloc, sheet, mask, workers, patience)?;
     if !is_solved {
-        return Ok(Guess::Reached(Reached::of(alloc, &cells, scene.phase.width)?));
+        return Ok(Guess::Reached(Reached::of(alloc, &cells, sheet.phase.width)?));
     }
     Ok(Guess::Surface {
-        cycles: cycles(rt, alloc, scene, mask, &cells, workers)?,
-        faces: faces(rt, alloc, scene, &cells, workers)?,
+        cycles: cycles(rt, alloc, sheet, mask, &cells, workers)?,
+        faces: faces(rt, alloc, sheet, &cells, workers)?,
     })
 }
 
-/// The cells of a scene as they are solved, and whether nothing was given up. Where no cell has a residue nothing flows and all
+/// The cells of a sheet as they are solved, and whether nothing was given up. Where no cell has a residue nothing flows and all
 /// faces are 0, and the list is empty.
 fn solve_cells<R: Threads + Sync>(
     rt: &R,
     alloc: Global,
-    scene: &Scene,
+    sheet: &Sheet,
     mask: &Mask,
     workers: u32,
     patience: u64,
 ) -> Result<(Vec<Cell>, bool), AllocError> {
-    if !has_residue(scene) {
+    if !has_residue(sheet) {
         return Ok((Vec::new(alloc), true));
     }
-    let mut cells = vec![in alloc; BEYOND; scene.phase.samples.len()]?;
+    let mut cells = vec![in alloc; BEYOND; sheet.phase.samples.len()]?;
     let waters = Waters::of(alloc, mask)?;
     let task = Task {
-        scene,
+        sheet,
         mask,
         waters: &waters,
         patience,

@@ -1,5 +1,5 @@
 use cell_forest::{Cell, cell_at};
-use raster_model::{Mask, Scene, first_open, turns_ramp};
+use raster_model::{Mask, Sheet, turns_ramp};
 use std::alloc::{AllocError, Global};
 use std::thread;
 use std::thread::Threads;
@@ -19,20 +19,20 @@ struct Part<'a> {
 pub(crate) fn cycles<R: Threads + Sync>(
     rt: &R,
     alloc: Global,
-    scene: &Scene,
+    sheet: &Sheet,
     mask: &Mask,
     cells: &[Cell],
     workers: u32,
 ) -> Result<Vec<i64>, AllocError> {
-    let mut list = vec![in alloc; 0; scene.phase.samples.len()]?;
-    let start = start(scene, mask, cells);
-    let mut parts = cut(alloc, &mut list, scene.phase.width)?;
+    let mut list = vec![in alloc; 0; sheet.phase.samples.len()]?;
+    let start = start(sheet, mask, cells);
+    let mut parts = cut(alloc, &mut list, sheet.phase.width)?;
     thread::for_each_mut(
         rt,
         &mut parts,
         workers.max(1) as usize,
         &|_, part: &mut Part<'_>| {
-            part.set_cycles(scene, cells, start);
+            part.set_cycles(sheet, cells, start);
         },
     );
     drop(parts);
@@ -43,12 +43,12 @@ pub(crate) fn cycles<R: Threads + Sync>(
 pub(crate) fn faces<R: Threads + Sync>(
     rt: &R,
     alloc: Global,
-    scene: &Scene,
+    sheet: &Sheet,
     cells: &[Cell],
     workers: u32,
 ) -> Result<Vec<i64>, AllocError> {
-    let across = scene.phase.width.saturating_sub(1);
-    let along = scene.phase.height.saturating_sub(1);
+    let across = sheet.phase.width.saturating_sub(1);
+    let along = sheet.phase.height.saturating_sub(1);
     let mut list = vec![in alloc; 0; across as usize * along as usize]?;
     let mut parts = cut(alloc, &mut list, across)?;
     thread::for_each_mut(
@@ -76,15 +76,15 @@ fn cut<'a>(alloc: Global, list: &'a mut [i64], width: u32) -> Result<Vec<Part<'a
 
 impl Part<'_> {
     /// Sets the cycles, where the first pixel of the raster has `start`.
-    fn set_cycles(&mut self, scene: &Scene, cells: &[Cell], start: i64) {
+    fn set_cycles(&mut self, sheet: &Sheet, cells: &[Cell], start: i64) {
         let mut first = start;
         for y in 0..self.row {
-            first = first.wrapping_add(rise_down(scene, cells, y));
+            first = first.wrapping_add(rise_down(sheet, cells, y));
         }
         let mut y = self.row;
-        for row in self.numbers.chunks_mut(scene.phase.width as usize) {
-            first = first.wrapping_add(rise_down(scene, cells, y));
-            set_row(scene, cells, y, first, row);
+        for row in self.numbers.chunks_mut(sheet.phase.width as usize) {
+            first = first.wrapping_add(rise_down(sheet, cells, y));
+            set_row(sheet, cells, y, first, row);
             y = y.wrapping_add(1);
         }
     }
@@ -102,12 +102,12 @@ impl Part<'_> {
 }
 
 /// Sets the cycles at the pixels of a row of which the first has `first`.
-fn set_row(scene: &Scene, cells: &[Cell], y: u32, first: i64, row: &mut [i64]) {
+fn set_row(sheet: &Sheet, cells: &[Cell], y: u32, first: i64, row: &mut [i64]) {
     let mut cycles = first;
     let mut x: u32 = 0;
     for number in row {
         if x > 0 {
-            cycles = cycles.wrapping_add(rise_right(scene, cells, x, y));
+            cycles = cycles.wrapping_add(rise_right(sheet, cells, x, y));
         }
         *number = cycles;
         x = x.wrapping_add(1);
@@ -122,34 +122,34 @@ fn set_faces(row: &mut [i64], cells: &[Cell]) {
 }
 
 /// The cycles at the first pixel by which those at the first open pixel are 0, or 0 if no pixel is open.
-fn start(scene: &Scene, mask: &Mask, cells: &[Cell]) -> i64 {
-    if mask.width() != scene.phase.width || mask.height() != scene.phase.height {
+fn start(sheet: &Sheet, mask: &Mask, cells: &[Cell]) -> i64 {
+    if mask.width() != sheet.phase.width || mask.height() != sheet.phase.height {
         return 0;
     }
-    let Some((x, y)) = first_open(scene, mask) else {
+    let Some((x, y)) = sheet.first_open(mask) else {
         return 0;
     };
     let mut cycles: i64 = 0;
     for row in 1..y.wrapping_add(1) {
-        cycles = cycles.wrapping_sub(rise_down(scene, cells, row));
+        cycles = cycles.wrapping_sub(rise_down(sheet, cells, row));
     }
     for column in 1..x.wrapping_add(1) {
-        cycles = cycles.wrapping_sub(rise_right(scene, cells, column, y));
+        cycles = cycles.wrapping_sub(rise_right(sheet, cells, column, y));
     }
     cycles
 }
 
 /// By how many cycles the first pixel of a row is above that of the row before.
-fn rise_down(scene: &Scene, cells: &[Cell], y: u32) -> i64 {
+fn rise_down(sheet: &Sheet, cells: &[Cell], y: u32) -> i64 {
     if y == 0 {
         return 0;
     }
-    let place = y.wrapping_mul(scene.phase.width);
-    let above = place.wrapping_sub(scene.phase.width);
+    let place = y.wrapping_mul(sheet.phase.width);
+    let above = place.wrapping_sub(sheet.phase.width);
     let turns = turns_ramp(
-        phase_at(scene, above),
-        phase_at(scene, place),
-        scene.terms.slope(true),
+        phase_at(sheet, above),
+        phase_at(sheet, place),
+        sheet.terms.slope(true),
     );
     let [right, _] = cell_at(cells, place).flows;
     i64::from(right)
@@ -159,20 +159,20 @@ fn rise_down(scene: &Scene, cells: &[Cell], y: u32) -> i64 {
 
 /// By how many cycles a pixel is above the one on its left.
 #[inline(always)]
-fn rise_right(scene: &Scene, cells: &[Cell], x: u32, y: u32) -> i64 {
-    let place = y.wrapping_mul(scene.phase.width).wrapping_add(x);
+fn rise_right(sheet: &Sheet, cells: &[Cell], x: u32, y: u32) -> i64 {
+    let place = y.wrapping_mul(sheet.phase.width).wrapping_add(x);
     let turns = turns_ramp(
-        phase_at(scene, place.wrapping_sub(1)),
-        phase_at(scene, place),
-        scene.terms.slope(false),
+        phase_at(sheet, place.wrapping_sub(1)),
+        phase_at(sheet, place),
+        sheet.terms.slope(false),
     );
     let [_, down] = cell_at(cells, place).flows;
     i64::from(down).wrapping_sub(i64::from(turns))
 }
 
 #[inline(always)]
-fn phase_at(scene: &Scene, place: u32) -> u16 {
-    scene
+fn phase_at(sheet: &Sheet, place: u32) -> u16 {
+    sheet
         .phase
         .samples
         .get(place as usize)

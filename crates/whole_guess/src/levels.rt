@@ -29,7 +29,7 @@ pub(crate) fn solve_levels<R: Threads + Sync>(
     cells: &mut [Cell],
     workers: u32,
 ) -> Result<(), Stop> {
-    let phase = &task.scene.phase;
+    let phase = &task.sheet.phase;
     let mut side = SMALLEST;
     for _ in 0..16 {
         solve_level(rt, alloc, task, cells, side, workers)?;
@@ -72,9 +72,9 @@ fn cut<'a>(
     cells: &'a mut [Cell],
     side: u32,
 ) -> Result<Vec<Strip<'a>>, AllocError> {
-    let scene = task.scene;
-    let size = side.wrapping_mul(scene.phase.width).max(1) as usize;
-    let (steep, greatest) = (scene.terms.steep, u32::from(scene.weights.maxval));
+    let sheet = task.sheet;
+    let size = side.wrapping_mul(sheet.phase.width).max(1) as usize;
+    let (steep, greatest) = (sheet.terms.steep, u32::from(sheet.weights.maxval));
     let mut strips = Vec::new(alloc);
     let mut row: u32 = 0;
     for cells in cells.chunks_mut(size) {
@@ -96,15 +96,15 @@ impl Strip<'_> {
         if side == SMALLEST {
             self.solve_smallest(alloc, task)
         } else {
-            self.join(task.scene.phase.width, side)
+            self.join(task.sheet.phase.width, side)
         }
     }
 
     /// Solves the smallest blocks, each in a list of its own, and puts their cells in the strip.
     fn solve_smallest(&mut self, alloc: Global, task: &Task<'_>) -> Result<(), Stop> {
         let mut block = Block::new(alloc);
-        let width = task.scene.phase.width;
-        let along = SMALLEST.min(task.scene.phase.height.wrapping_sub(self.row));
+        let width = task.sheet.phase.width;
+        let along = SMALLEST.min(task.sheet.phase.height.wrapping_sub(self.row));
         for x in (0..width).step_by(SMALLEST as usize) {
             let across = SMALLEST.min(width.wrapping_sub(x));
             let listed = &mut self.forest.listed;

@@ -1,12 +1,12 @@
-use raster_model::{Scene, Terms, wrapped_ramp};
+use raster_model::{Sheet, Terms, wrapped_ramp};
 
-/// Whether a cell of a scene has a residue.
-pub(crate) fn has_residue(scene: &Scene) -> bool {
-    let width = scene.phase.width.max(1) as usize;
-    let rows = scene.phase.samples.chunks(width);
-    let below = scene.phase.samples.chunks(width).skip(1);
+/// Whether a cell of a sheet has a residue.
+pub(crate) fn has_residue(sheet: &Sheet) -> bool {
+    let width = sheet.phase.width.max(1) as usize;
+    let rows = sheet.phase.samples.chunks(width);
+    let below = sheet.phase.samples.chunks(width).skip(1);
     for (upper, lower) in rows.zip(below) {
-        if row_has_residue(upper, lower, scene.terms) {
+        if row_has_residue(upper, lower, sheet.terms) {
             return true;
         }
     }

@@ -59,5 +59,5 @@ fresh_near begin s f fresh few a i = let r = fresh a i in (omega (arith, ints, r
 pub small_bounded : (s : Shape) → HasSmallCosts s → BoundsCosts s 1048560
 small_bounded s small = record {
   costs = small.costs;
-  small = (let m = mul-le s.nodes 1048560 16777216 1048560 small.few (omega arith) in omega (arith, m));
+  small = (let m = mul-le s.nodes 1048560 268435456 1048560 small.few (omega arith) in omega (arith, m));
 }

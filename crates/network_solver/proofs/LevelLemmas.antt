@@ -42,15 +42,15 @@ module _ (s : Shape) (base : ℕ → ℤ) where
   pub may_raise_below : (amounts : List ℤ) (f : State) → MayRaise (leveled_shape s base) (leveled_state f base) amounts → MayRaise s f amounts
   may_raise_below amounts f may a arc l = rw (same_reduced_cost f a) at (may a arc l)
 
-  -- costs are small, where the potentials that were reached lie within 2^34
-  pub leveled_bounded : HasSmallCosts s → ((u : ℕ) → unsigned_abs (base u) ≤ 17179869184) → BoundsCosts (leveled_shape s base) 34360786928
+  -- costs are small, where the potentials that were reached lie within the limit
+  pub leveled_bounded : HasSmallCosts s → ((u : ℕ) → unsigned_abs (base u) ≤ 1073741824) → BoundsCosts (leveled_shape s base) 2148532208
   leveled_bounded small low = record {
     costs = λ a arc. (
         let c = small.costs a arc in
         let t = low (tail_of s a) in
         let h = low (s.head a) in
         omega (arith, ints, c, t, h));
-    small = (let m = mul-le s.nodes 34360786928 16777216 34360786928 small.few (omega arith) in omega (arith, m));
+    small = (let m = mul-le s.nodes 2148532208 268435456 2148532208 small.few (omega arith) in omega (arith, m));
   }
 
   pub leveled_near : (start : ℕ → ℕ) (f : State) → StaysNearStart start s f → StaysNearStart start (leveled_shape s base) (leveled_state f base)

@@ -1,4 +1,4 @@
-//! Least corrections over any window of a scene's raster, by its network.
+//! Least corrections over any window of a raster, by its network.
 #![tactic(auto)]
 
 mod leveling;

@@ -5,9 +5,10 @@ ghost use Rattle.dual_grid.specs.Starts.{TellsMask};
 ghost use Rattle.dual_grid.specs.Views.{IsGridOf, grid_shape, grid_start, grid_state};
 ghost use Rattle.flow_network.specs.Nets.{HasNoExcess};
 ghost use Rattle.network_solver.specs.Fresh.{CanBeBalanced};
+ghost use Rattle.raster_model.specs.Raster.{Raster};
+ghost use Rattle.raster_model.specs.Sheets.{sheet_raster};
 ghost use Rattle.raster_model.specs.Sums.{Field};
 ghost use Rattle.raster_model.specs.Tiles.{height_of, width_of};
-ghost use Rattle.raster_model.specs.declared.scene.Scene.{Scene as SceneOf};
 ghost use Rattle.raster_model.specs.declared.tiling.Window.{Window as WindowOf};
 ghost use Rattle.std.specs.Prelude.{◌≡◌, ◌*◌, ℕ, Bool, IfOk, List, OnOk, length};
 ghost use Rattle.wrapped_gradient.specs.Gradients.{AreGradientsOf};
@@ -15,28 +16,28 @@ ghost use Rattle.wrapped_gradient.specs.Gradients.{AreGradientsOf};
 use crate::leveling::LeveledGrid;
 use dual_grid::DualGrid;
 use flow_network::FlowNet;
-use raster_model::Scene;
+use raster_model::Sheet;
 use shortest_augment::{BalanceFault, balance};
 use std::alloc::{AllocError, Global};
 use wrapped_gradient::{Corrections, Gradients};
 
 /// The corrections of a window's edges that cancel its residues at least cost, and the faces of its cells in row order,
-/// which certify them. The window is that of the gradients, which are the scene's. `unmasked` tells the mask: for each
+/// which certify them. The window is that of the gradients, which are the sheet's. `unmasked` tells the mask: for each
 /// pixel of the window, in row order, whether it is open. The answer is one for each tile that has exactly the window's
-/// pixels, whatever tiles the scene's raster is given. It fails only for lack of memory. (Costantini 1998.)
+/// pixels, whatever tiles the sheet's raster is given. It fails only for lack of memory. (Costantini 1998.)
 pub fn network_corrections(
     alloc: Global,
-    scene: &Scene,
+    sheet: &Sheet,
     gradients: &Gradients,
     unmasked: &[bool],
 ) -> Result<(Corrections, Vec<i64>), AllocError>
-    requires gradients { AreGradientsOf scene.now gradients.now }
+    requires gradients { AreGradientsOf (sheet_raster sheet.now) gradients.now }
     requires count { length unmasked.now ≡ width_of gradients.now.window * height_of gradients.now.window }
 
     // The mask is any that agrees with `unmasked` over the window.
-    ensures { IfOk result (λ made. (mask : Field Bool) → TellsMask gradients.now.window unmasked.now mask → AreCertifiedOver scene.now mask gradients.now.window made.0 made.1.items) }
+    ensures { IfOk result (λ made. (mask : Field Bool) → TellsMask gradients.now.window unmasked.now mask → AreCertifiedOver (sheet_raster sheet.now) mask gradients.now.window made.0 made.1.items) }
 {
-    let mut grid = DualGrid::over(alloc, scene, gradients, unmasked)?;
+    let mut grid = DualGrid::over(alloc, sheet, gradients, unmasked)?;
     empty(alloc, &mut grid)?;
     grid.answer(alloc)
 }
@@ -46,19 +47,19 @@ pub fn network_corrections(
 /// what was reached can save time, and changes nothing of what is promised. It fails only for lack of memory.
 pub fn network_corrections_from(
     alloc: Global,
-    scene: &Scene,
+    sheet: &Sheet,
     gradients: &Gradients,
     unmasked: &[bool],
     corrections: Corrections,
     faces: &[i64],
 ) -> Result<(Corrections, Vec<i64>), AllocError>
-    requires gradients { AreGradientsOf scene.now gradients.now }
+    requires gradients { AreGradientsOf (sheet_raster sheet.now) gradients.now }
     requires count { length unmasked.now ≡ width_of gradients.now.window * height_of gradients.now.window }
-    ensures { IfOk result (λ made. (mask : Field Bool) → TellsMask gradients.now.window unmasked.now mask → AreCertifiedOver scene.now mask gradients.now.window made.0 made.1.items) }
+    ensures { IfOk result (λ made. (mask : Field Bool) → TellsMask gradients.now.window unmasked.now mask → AreCertifiedOver (sheet_raster sheet.now) mask gradients.now.window made.0 made.1.items) }
 {
-    match DualGrid::reached(alloc, scene, gradients, unmasked, corrections, faces)? {
+    match DualGrid::reached(alloc, sheet, gradients, unmasked, corrections, faces)? {
         Some(grid) => finished(alloc, grid),
-        None => network_corrections(alloc, scene, gradients, unmasked),
+        None => network_corrections(alloc, sheet, gradients, unmasked),
     }
 }
 
@@ -68,7 +69,7 @@ fn finished(alloc: Global, grid: DualGrid) -> Result<(Corrections, Vec<i64>), Al
     requires near { StaysNearStart (grid_start grid) (grid_shape grid) (grid_state grid) }
     requires joined { IsConnected (grid_start grid) (grid_shape grid) }
     requires low { AreLow grid.potentials.items }
-    ensures { IfOk result (λ made. (s : SceneOf) (v : WindowOf) (unmasked : List Bool) (mask : Field Bool) → IsGridOf s v unmasked grid → TellsMask v unmasked mask → AreCertifiedOver s mask v made.0 made.1.items) }
+    ensures { IfOk result (λ made. (r : Raster) (v : WindowOf) (unmasked : List Bool) (mask : Field Bool) → IsGridOf r v unmasked grid → TellsMask v unmasked mask → AreCertifiedOver r mask v made.0 made.1.items) }
 {
     let mut leveled = LeveledGrid::of(grid)?;
     empty(alloc, &mut leveled)?;

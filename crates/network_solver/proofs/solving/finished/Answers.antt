@@ -22,7 +22,7 @@ ready c =
     let small = subst (λ (g : DualGrid). HasSmallCosts (grid_shape g)) back c.requires.small in
     record {
       flat = c.in_ok-leveled.ensures.flat;
-      bounded = (34360786928, leveled_bounded (grid_shape x.grid) base small x.low);
+      bounded = (2148532208, leveled_bounded (grid_shape x.grid) base small x.low);
       near = leveled_near (grid_shape x.grid) base (grid_start x.grid) (grid_state x.grid) (subst (λ (g : DualGrid). StaysNearStart (grid_start g) (grid_shape g) (grid_state g)) back c.requires.near);
       joined = subst (λ (g : DualGrid). IsConnected (grid_start g) (grid_shape g)) back c.requires.joined;
     }
@@ -44,6 +44,6 @@ answer-requires-clause-near c =
 pub returns : goal.returns
 returns c =
     let x = c.in_ok-leveled.leveled in
-    IfOk-weaker c.answer.result _ _ (λ made answers s v unmasked mask grid told. (
-    let before = subst (λ (g : DualGrid). IsGridOf s v unmasked g) (sym c.in_ok-leveled.ensures.grid) grid in
-    answers s v unmasked mask (grid_stays s v unmasked x.grid c.empty.new.net.grid c.empty.ensures.origin before) told)) c.answer.ensures
+    IfOk-weaker c.answer.result _ _ (λ made answers r v unmasked mask grid told. (
+    let before = subst (λ (g : DualGrid). IsGridOf r v unmasked g) (sym c.in_ok-leveled.ensures.grid) grid in
+    answers r v unmasked mask (grid_stays r v unmasked x.grid c.empty.new.net.grid c.empty.ensures.origin before) told)) c.answer.ensures

@@ -1,5 +1,6 @@
 use Rattle.std.proofs.Common.{ℕ, subst, sym}
 use Rattle.std.proofs.lemmas.Result.{IfOk-weaker}
+use Rattle.raster_model.specs.Sheets.{sheet_raster}
 use Rattle.dual_grid.specs.Answers.{IsNearStart}
 use Rattle.dual_grid.specs.Views.{grid_shape, grid_start, grid_state}
 use Rattle.dual_grid.proofs.CallerLemmas.{grid_stays, start_stays}
@@ -29,8 +30,8 @@ answer-requires-clause-near c =
 
 pub returns : goal.returns
 returns c =
-    let s = c.args.scene.now in
+    let r = sheet_raster c.args.sheet.now in
     let v = c.args.gradients.now.window in
     let u = c.args.unmasked.now in
-    let grid = grid_stays s v u c.in_ok-grid.grid c.empty.new.net c.empty.ensures.origin c.in_ok-grid.ensures.grid in
-    IfOk-weaker c.answer.result _ _ (λ made answers mask told. answers s v u mask grid told) c.answer.ensures
+    let grid = grid_stays r v u c.in_ok-grid.grid c.empty.new.net c.empty.ensures.origin c.in_ok-grid.ensures.grid in
+    IfOk-weaker c.answer.result _ _ (λ made answers mask told. answers r v u mask grid told) c.answer.ensures

@@ -37,13 +37,13 @@ cost_read c = let fits : FitsSigned w64 c.cost.result = search rules in to_z-of_
 cost_small : (c : After-cost) → unsigned_abs ((grid_shape c.args.self.now.grid).cost c.args.arc) ≤ 2 ^ 40
 cost_small c = let g = c.args.self.now.grid in g.room.costs c.args.arc (g.is_network.below c.args.arc c.requires)
 
-sum_fits : (c t k i : ℤ) → k ≡ c → i ≡ t → unsigned_abs c ≤ 2 ^ 40 → unsigned_abs t ≤ 2 ^ 34 → FitsSigned w64 (k +ℤ i)
+sum_fits : (c t k i : ℤ) → k ≡ c → i ≡ t → unsigned_abs c ≤ 2 ^ 40 → unsigned_abs t ≤ 2 ^ 30 → FitsSigned w64 (k +ℤ i)
 sum_fits c t k i p q l m = omega (arith, ints, p, q, l, m)
 
-rest_fits : (c t h k i j : ℤ) → k ≡ c → i ≡ t → j ≡ h → unsigned_abs c ≤ 2 ^ 40 → unsigned_abs t ≤ 2 ^ 34 → unsigned_abs h ≤ 2 ^ 34 → FitsSigned w64 (to_z w64 (of_z w64 (k +ℤ i)) -ℤ j)
+rest_fits : (c t h k i j : ℤ) → k ≡ c → i ≡ t → j ≡ h → unsigned_abs c ≤ 2 ^ 40 → unsigned_abs t ≤ 2 ^ 30 → unsigned_abs h ≤ 2 ^ 30 → FitsSigned w64 (to_z w64 (of_z w64 (k +ℤ i)) -ℤ j)
 rest_fits c t h k i j p q r l m n = let sum = to_z-of_z w64 (k +ℤ i) (sum_fits c t k i p q l m) in omega (arith, ints, sum, p, q, r, l, m, n)
 
-all_is : (c t h k i j : ℤ) → k ≡ c → i ≡ t → j ≡ h → unsigned_abs c ≤ 2 ^ 40 → unsigned_abs t ≤ 2 ^ 34 → unsigned_abs h ≤ 2 ^ 34 → to_z w64 (of_z w64 (to_z w64 (of_z w64 (k +ℤ i)) -ℤ j)) ≡ c +ℤ t -ℤ h
+all_is : (c t h k i j : ℤ) → k ≡ c → i ≡ t → j ≡ h → unsigned_abs c ≤ 2 ^ 40 → unsigned_abs t ≤ 2 ^ 30 → unsigned_abs h ≤ 2 ^ 30 → to_z w64 (of_z w64 (to_z w64 (of_z w64 (k +ℤ i)) -ℤ j)) ≡ c +ℤ t -ℤ h
 all_is c t h k i j p q r l m n =
     let sum = to_z-of_z w64 (k +ℤ i) (sum_fits c t k i p q l m) in
     let all = to_z-of_z w64 (to_z w64 (of_z w64 (k +ℤ i)) -ℤ j) (rest_fits c t h k i j p q r l m n) in

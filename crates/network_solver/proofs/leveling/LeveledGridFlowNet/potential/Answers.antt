@@ -6,7 +6,7 @@ use Rattle.dual_grid.proofs.ReadLemmas.{read_64}
 use Rattle.network_solver.proofs.leveling.LeveledGridFlowNet.potential.Goals as goal
 
 -- a difference in code at 64 bits
-less_is : (p b k i : ℤ) → k ≡ p → i ≡ b → unsigned_abs p < 2 ^ 62 → unsigned_abs b ≤ 2 ^ 34 → to_z w64 (of_z w64 (k -ℤ i)) ≡ p -ℤ b
+less_is : (p b k i : ℤ) → k ≡ p → i ≡ b → unsigned_abs p < 2 ^ 62 → unsigned_abs b ≤ 2 ^ 30 → to_z w64 (of_z w64 (k -ℤ i)) ≡ p -ℤ b
 less_is p b k i e f l m = let all = to_z-of_z w64 (k -ℤ i) (omega (arith, ints, e, f, l, m)) in omega (arith, ints, all, e, f)
 
 pub returns : goal.returns

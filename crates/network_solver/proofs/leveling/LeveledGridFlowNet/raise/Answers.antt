@@ -17,7 +17,7 @@ lift-requires-clause-within c =
     let x = c.args.self.now in
     reached ((grid_state x.grid).potential u) (number_or_zero x.base.items u) (get_or c.args.amounts.now u (pos 0)) (c.requires.within u l) (x.low u)
   where
-    reached : (p b a : ℤ) → unsigned_abs (p -ℤ b +ℤ a) ≤ 2 ^ 61 → unsigned_abs b ≤ 2 ^ 34 → unsigned_abs (p +ℤ a) < 2 ^ 62
+    reached : (p b a : ℤ) → unsigned_abs (p -ℤ b +ℤ a) ≤ 2 ^ 61 → unsigned_abs b ≤ 2 ^ 30 → unsigned_abs (p +ℤ a) < 2 ^ 62
     reached p b a l m = omega (arith, ints, l, m)
 
 pub invariant_of-self : goal.invariant_of-self

@@ -3,44 +3,30 @@ ghost use Rattle.flow_network.specs.Growing.{supply_sum, supply_sizes};
 ghost use Rattle.flow_network.specs.Views.{shape_of, state_of};
 ghost use Rattle.shortest_augment.specs.Balance.{BoundsCosts, HasZeroPotentials};
 
+use crate::outcomes::holds;
 use flow_network::{FlowNet, Network};
 use shortest_augment::{BalanceFault, balance};
 use std::alloc::{AllocError, Global};
 use std::process::Abort;
-use std::test::Fail;
+use worked_scenes::numbers;
 
 /// What excesses and capacities may come to in all.
 const ROOM: u64 = 1 << 62;
 
 /// The least cost of each network, the number of its nodes, their supplies, and tail, head, cost and capacity of each arc.
 /// The costs of the first four are those of `network_simplex` of networkx 3.6.1; the others were found by hand.
-fn rows() -> [&'static str; 11] {
-    [
-        "8 2  2 -2  0 1 3 1  0 1 5 5",
-        "31 5  -1 -3 2 4 -2  1 3 7 6  2 3 4 3  3 4 2 1  3 1 7 3  1 0 7 3  4 2 1 3  4 0 4 3  4 2 7 3  2 4 2 5  0 3 4 3  2 3 4 5  2 4 4 6  2 3 5 2  3 2 5 5",
-        "58 6  -2 4 -2 -1 1 0  3 2 2 4  1 4 18 5  5 3 9 5  4 2 0 2  1 4 14 5  5 1 7 2  5 0 15 2  1 0 4 1  2 1 15 2  4 0 13 4  2 3 19 1  4 1 7 3  0 2 12 3  3 0 17 3  0 4 19 3  0 2 17 5  2 4 9 3  1 3 13 5",
-        "19 9  1 0 -1 0 -1 0 1 0 0  0 1 9 9  1 0 9 9  0 3 3 9  3 0 3 9  1 2 1 9  2 1 1 9  1 4 9 9  4 1 9 9  2 5 6 9  5 2 6 9  3 4 5 9  4 3 5 9  3 6 4 9  6 3 4 9  4 5 2 9  5 4 2 9  4 7 7 9  7 4 7 9  5 8 5 9  8 5 5 9  6 7 4 9  7 6 4 9  7 8 1 9  8 7 1 9",
-        "0 1  0",
-        "0 1  0  0 0 5 9",
-        "7 2  1 -1  0 0 0 9  1 1 2 9  0 1 7 1",
-        "5497558138880 2  5 -5  0 1 1099511627776 5",
-        "3298534883328 3  1 1 -2  0 1 1099511627776 9  1 2 1099511627776 9",
-        "1152921504606846976 2  1152921504606846976 -1152921504606846976  0 1 1 1152921504606846976",
-        "5 3  3 0 -3  0 1 0 3  1 2 1 2  1 2 3 2",
-    ]
-}
-
-/// The numbers in a text, or None if a word is none.
-fn numbers(alloc: Global, text: &str) -> Result<Option<Vec<i64>>, AllocError> {
-    let mut all = Vec::new(alloc);
-    for word in text.split_whitespace() {
-        let Ok(number) = word.parse::<i64>() else {
-            return Ok(None);
-        };
-        all.push(number)?;
-    }
-    Ok(Some(all))
-}
+const ROWS: &str = "\
+8 2  2 -2  0 1 3 1  0 1 5 5
+31 5  -1 -3 2 4 -2  1 3 7 6  2 3 4 3  3 4 2 1  3 1 7 3  1 0 7 3  4 2 1 3  4 0 4 3  4 2 7 3  2 4 2 5  0 3 4 3  2 3 4 5  2 4 4 6  2 3 5 2  3 2 5 5
+58 6  -2 4 -2 -1 1 0  3 2 2 4  1 4 18 5  5 3 9 5  4 2 0 2  1 4 14 5  5 1 7 2  5 0 15 2  1 0 4 1  2 1 15 2  4 0 13 4  2 3 19 1  4 1 7 3  0 2 12 3  3 0 17 3  0 4 19 3  0 2 17 5  2 4 9 3  1 3 13 5
+19 9  1 0 -1 0 -1 0 1 0 0  0 1 9 9  1 0 9 9  0 3 3 9  3 0 3 9  1 2 1 9  2 1 1 9  1 4 9 9  4 1 9 9  2 5 6 9  5 2 6 9  3 4 5 9  4 3 5 9  3 6 4 9  6 3 4 9  4 5 2 9  5 4 2 9  4 7 7 9  7 4 7 9  5 8 5 9  8 5 5 9  6 7 4 9  7 6 4 9  7 8 1 9  8 7 1 9
+0 1  0
+0 1  0  0 0 5 9
+7 2  1 -1  0 0 0 9  1 1 2 9  0 1 7 1
+5497558138880 2  5 -5  0 1 1099511627776 5
+3298534883328 3  1 1 -2  0 1 1099511627776 9  1 2 1099511627776 9
+1152921504606846976 2  1152921504606846976 -1152921504606846976  0 1 1 1152921504606846976
+5 3  3 0 -3  0 1 0 3  1 2 1 2  1 2 3 2";
 
 /// What few supplies that sum to 0 come to by size, or None if they are others.
 fn sizes(supplies: &[i64]) -> Option<u64>
@@ -154,81 +140,60 @@ fn cost_out<N: FlowNet>(net: &N, node: u32) -> u64
     total
 }
 
-/// The cost of the balanced network of a row, minus the cost that the row names, or None if nothing balances it.
-fn cost_beyond(alloc: Global, row: &str) -> Result<Option<u64>, AllocError> {
-    let Some(row) = numbers(alloc, row)? else {
-        return Ok(None);
-    };
-    if row.len() < 2 {
-        return Ok(None);
-    }
-    let Ok(nodes) = usize::try_from(row[1]) else {
-        return Ok(None);
-    };
-    if nodes > row.len() - 2 {
-        return Ok(None);
-    }
-    let Some(mut net) = build(alloc, &row[2..nodes + 2], &row[nodes + 2..])? else {
-        return Ok(None);
-    };
-    match balance(alloc, &mut net) {
-        Err(_) => Ok(None),
-        Ok(()) => Ok(Some(flow_cost(&net).wrapping_sub(row[0].unsigned_abs()))),
-    }
+/// The network of these supplies and arcs, balanced.
+fn balanced(rt: &impl Abort, alloc: Global, supplies: &[i64], arcs: &[i64]) -> Network {
+    let built = build(alloc, supplies, arcs).expect(rt, "memory");
+    let mut net = built.expect(rt, "a network");
+    let balanced = balance(alloc, &mut net);
+    assert!(rt; balanced.is_ok());
+    net
+}
+
+/// The cost of the balanced network of a row, minus the cost that the row names.
+fn cost_beyond(rt: &impl Abort, alloc: Global, row: &str) -> u64 {
+    let row = numbers(alloc, row).expect(rt, "memory");
+    assert!(rt; row.len() >= 2);
+    let nodes = usize::try_from(row[1]).expect(rt, "a number of nodes");
+    assert!(rt; nodes <= row.len() - 2);
+    let net = balanced(rt, alloc, &row[2..nodes + 2], &row[nodes + 2..]);
+    flow_cost(&net).wrapping_sub(row[0].unsigned_abs())
 }
 
 #[test]
-fn reaches_the_least_costs(rt: HostRuntime) -> Result<(), Fail> {
-    for row in rows() {
-        assert_eq!(rt; cost_beyond(rt.alloc(), row)?, Some(0));
+fn reaches_the_least_costs(rt: HostRuntime) {
+    for row in ROWS.lines() {
+        holds(&rt, row, cost_beyond(&rt, rt.alloc(), row) == 0);
     }
-    Ok(())
 }
 
 /// One unit goes over each of two arcs, and the dearer one sets the potentials.
 #[test]
-fn fills_the_cheaper_arc_first(rt: HostRuntime) -> Result<(), Fail> {
-    let alloc = rt.alloc();
-    let arcs = [0, 1, 3, 1, 0, 1, 5, 5];
-    let mut net = build(alloc, &[2, -2], &arcs)?.expect(&rt, "a network");
-    assert!(rt; balance(alloc, &mut net).is_ok());
-    assert_eq!(rt; net.nodes(), 2);
-    assert_eq!(rt; net.potential(1).wrapping_sub(net.potential(0)), 5);
-    assert_eq!(rt; flow_cost(&net), 8);
-    Ok(())
+fn fills_the_cheaper_arc_first(rt: HostRuntime) {
+    let net = balanced(&rt, rt.alloc(), &[2, -2], &[0, 1, 3, 1, 0, 1, 5, 5]);
+    assert!(rt; net.nodes() == 2);
+    assert!(rt; net.potential(1).wrapping_sub(net.potential(0)) == 5 && flow_cost(&net) == 8);
 }
 
 /// Supplies of as much as a network can hold, and no arc.
 #[test]
-fn names_the_node_that_no_arc_leaves(rt: HostRuntime) -> Result<(), Fail> {
-    let alloc = rt.alloc();
+fn names_the_node_that_no_arc_leaves(rt: HostRuntime) {
     let most = 1 << 61;
-    let mut net = build(alloc, &[most, -most], &[])?.expect(&rt, "a network");
-    match balance(alloc, &mut net) {
-        Err(BalanceFault::Blocked(names)) => assert_eq!(rt; names.as_slice(), [0].as_slice()),
+    let built = build(rt.alloc(), &[most, -most], &[]).expect(&rt, "memory");
+    let mut net = built.expect(&rt, "a network");
+    match balance(rt.alloc(), &mut net) {
+        Err(BalanceFault::Blocked(names)) => assert!(rt; names.as_slice() == [0].as_slice()),
         _ => assert!(rt; false),
     }
-    Ok(())
 }
 
 /// `count` arcs from one node to another, each of cost 1 and capacity 1.
-fn parallel(alloc: Global, count: usize) -> Result<Vec<i64>, AllocError> {
-    let mut arcs = Vec::new(alloc);
-    for _ in 0..count {
-        arcs.push(0)?;
-        arcs.push(1)?;
-        arcs.push(1)?;
-        arcs.push(1)?;
-    }
-    Ok(arcs)
+fn parallel(rt: &impl Abort, alloc: Global, count: usize) -> Vec<i64> {
+    [0, 1, 1, 1].repeat(alloc, count).expect(rt, "memory")
 }
 
 #[test]
-fn fills_a_million_arcs(rt: HostRuntime) -> Result<(), Fail> {
-    let alloc = rt.alloc();
-    let arcs = parallel(alloc, 1_000_000)?;
-    let mut net = build(alloc, &[1_000_000, -1_000_000], &arcs)?.expect(&rt, "a network");
-    assert!(rt; balance(alloc, &mut net).is_ok());
-    assert_eq!(rt; flow_cost(&net), 1_000_000);
-    Ok(())
+fn fills_a_million_arcs(rt: HostRuntime) {
+    let arcs = parallel(&rt, rt.alloc(), 1_000_000);
+    let net = balanced(&rt, rt.alloc(), &[1_000_000, -1_000_000], &arcs);
+    assert!(rt; flow_cost(&net) == 1_000_000);
 }

@@ -3,7 +3,7 @@ ghost use Rattle.std.specs.Prelude.{◌≡◌, ◌<◌};
 ghost use Rattle.wrapped_gradient.specs.Gradients.{AreGradientsOf};
 
 use crate::outcomes::holds;
-use crate::reading::{Raster, read_at, read_raster, read_steep, unmasked};
+use crate::reading::{Raster, TURN, read_at, read_raster, read_steep, unmasked};
 use crate::tile_rows::{ROWS, STEEP_ROWS};
 use certificates::{TileVerdict, check_tile};
 use dual_grid::{DualGrid, Problem};
@@ -54,7 +54,7 @@ fn guess(rt: &impl Abort, alloc: Global, row: &str) -> Guess {
 fn full_turn(rt: &impl Abort, alloc: Global) -> Scene
     ensures { 0 < tiles_of result.tiling }
 {
-    read_raster(rt, alloc, "2|2|0 16384 49152 32768|5 5 3 9|1 1 1 1").scene
+    read_raster(rt, alloc, TURN).scene
 }
 
 /// The gradients of a scene's one tile.

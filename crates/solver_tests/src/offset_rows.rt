@@ -1,11 +1,12 @@
 use crate::outcomes::same;
+use crate::reading::terms_at;
 use certificates::TileResult;
 use collector_core::collect_from;
 use offset_guess::Guess;
 use std::alloc::Global;
 use std::process::Abort;
 use tile_board::Board;
-use worked_scenes::{board, cycles, field, number, numbers, tile_result};
+use worked_scenes::{board_on, cycles, field, number, numbers, tile_result};
 
 /// Rows with the side of the tiles, planes, the tiles' results with cycles and faces, and the one answer: an offset for each region and a flow for each seam edge.
 /// By hand: a line whose second half lies a cycle lower; two light edges that give way to a heavy one (with the column
@@ -29,11 +30,12 @@ fn result(rt: &impl Abort, alloc: Global, tile: u32, field: &str) -> TileResult 
     tile_result(alloc, tile, 0, &own, &faces).expect(rt, "memory")
 }
 
-/// The board of a row, which begins with the side, the planes and the results, which the board keeps.
-fn row_board(rt: &impl Abort, alloc: Global, row: &str) -> Board {
+/// The board of a row at a steepness. The row begins with the side, the planes and the results, which the board keeps.
+pub(crate) fn row_board(rt: &impl Abort, alloc: Global, steep: u32, row: &str) -> Board {
     let mut fields = row.split('|');
     let side = number(&mut fields).clamp(2, 128);
-    let mut board = board(alloc, field(&mut fields), side).expect(rt, "a session");
+    let board = board_on(alloc, terms_at(steep), field(&mut fields), side);
+    let mut board = board.expect(rt, "a session");
     for (tile, field) in (0u32..).zip(field(&mut fields).split(';')) {
         board
             .keep(alloc, result(rt, alloc, tile, field))
@@ -43,7 +45,12 @@ fn row_board(rt: &impl Abort, alloc: Global, row: &str) -> Board {
 }
 
 /// What is collected on a board from a guess, if one is given, in the words of a row: the offsets and the flows.
-fn collected(rt: &impl Abort, alloc: Global, board: &Board, guess: Option<Guess>) -> String {
+pub(crate) fn collected(
+    rt: &impl Abort,
+    alloc: Global,
+    board: &Board,
+    guess: Option<Guess>,
+) -> String {
     let gathered = board.gather(alloc).expect(rt, "a result of each tile");
     let seams = collect_from(alloc, &gathered, guess).expect(rt, "memory");
     format!(in alloc; "{:?} {:?}", seams.offsets, seams.flows).expect(rt, "memory")
@@ -61,7 +68,7 @@ fn wanted(rt: &impl Abort, alloc: Global, row: &str) -> String {
 fn regions_are_moved_where_their_seams_cost_least(rt: HostRuntime) {
     let alloc = rt.alloc();
     for row in ROWS.lines() {
-        let board = row_board(&rt, alloc, row);
+        let board = row_board(&rt, alloc, 1, row);
         let found = collected(&rt, alloc, &board, None);
         same(&rt, row, &found, &wanted(&rt, alloc, row));
     }
@@ -82,9 +89,8 @@ const GUESSES: &str = "\
 -9223372036854775808 9223372036854775807|-4 -4 8
 0 -1|-9223372036854775808 9223372036854775807 8";
 
-/// The guess of a row.
-fn guess(rt: &impl Abort, alloc: Global, row: &str) -> Guess {
-    let (offsets, flows) = row.split_once('|').unwrap_or((row, ""));
+/// The guess of two fields.
+pub(crate) fn guess(rt: &impl Abort, alloc: Global, offsets: &str, flows: &str) -> Guess {
     let offsets = numbers(alloc, offsets).expect(rt, "memory");
     let flows = numbers(alloc, flows).expect(rt, "memory");
     Guess { offsets, flows }
@@ -93,7 +99,8 @@ fn guess(rt: &impl Abort, alloc: Global, row: &str) -> Guess {
 /// Refuses a board that does not give its one answer from each of the guesses.
 fn ends_alike(rt: &impl Abort, alloc: Global, board: &Board, wanted: &str) {
     for row in GUESSES.lines() {
-        let guess = guess(rt, alloc, row);
+        let (offsets, flows) = row.split_once('|').unwrap_or((row, ""));
+        let guess = guess(rt, alloc, offsets, flows);
         let found = collected(rt, alloc, board, Some(guess));
         same(rt, row, &found, wanted);
     }
@@ -104,7 +111,7 @@ fn ends_alike(rt: &impl Abort, alloc: Global, board: &Board, wanted: &str) {
 fn any_guess_ends_in_least_offsets(rt: HostRuntime) {
     let alloc = rt.alloc();
     for row in ROWS.lines() {
-        let board = row_board(&rt, alloc, row);
+        let board = row_board(&rt, alloc, 1, row);
         ends_alike(&rt, alloc, &board, &wanted(&rt, alloc, row));
     }
 }

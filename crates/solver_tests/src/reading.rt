@@ -6,7 +6,6 @@ ghost use Rattle.std.specs.Prelude.{◌≡◌, ◌<◌, length};
 use raster_model::{Scene, Terms, Tiling};
 use std::alloc::{AllocError, Global};
 use std::process::Abort;
-use std::str::Split;
 use worked_scenes::{field, number, samples, scene_on};
 
 /// A raster in one tile, and the samples of its mask.
@@ -16,33 +15,26 @@ pub(crate) struct Raster {
     pub(crate) opened: Vec<u16>,
 }
 
+/// A full turn, whose one cell has the residue 1, and whose edges weigh 5 above, 3 below, 3 on the left and 5 on the right.
+pub(crate) const TURN: &str = "2|2|0 16384 49152 32768|5 5 3 9|1 1 1 1";
+
 /// The raster of a row, which begins with the width, the height, the phases, the weights and the mask.
 pub(crate) fn read_raster(rt: &impl Abort, alloc: Global, row: &str) -> Raster
     ensures { 0 < tiles_of result.scene.tiling }
 {
-    let mut fields = row.split('|');
-    read_raster_on(rt, alloc, Terms::plain(), &mut fields)
+    read_at(rt, alloc, 1, row)
 }
 
 /// The same at the steepness at the beginning of a row.
 pub(crate) fn read_steep(rt: &impl Abort, alloc: Global, row: &str) -> Raster
     ensures { 0 < tiles_of result.scene.tiling }
 {
-    let mut fields = row.split('|');
-    let steep = number(&mut fields);
-    read_raster_on(rt, alloc, terms_at(steep), &mut fields)
-}
-
-/// The raster of a row that does not tell the steepness, at one.
-pub(crate) fn read_at(rt: &impl Abort, alloc: Global, steep: u32, row: &str) -> Raster
-    ensures { 0 < tiles_of result.scene.tiling }
-{
-    let mut fields = row.split('|');
-    read_raster_on(rt, alloc, terms_at(steep), &mut fields)
+    let (steep, row) = row.split_once('|').unwrap_or((row, ""));
+    read_at(rt, alloc, steep.parse().unwrap_or(0), row)
 }
 
 /// No ramp, and a steepness.
-fn terms_at(steep: u32) -> Terms {
+pub(crate) fn terms_at(steep: u32) -> Terms {
     Terms {
         ramp_x: 0,
         ramp_y: 0,
@@ -50,20 +42,19 @@ fn terms_at(steep: u32) -> Terms {
     }
 }
 
-/// The raster of the next fields on these terms.
-fn read_raster_on(
-    rt: &impl Abort,
-    alloc: Global,
-    terms: Terms,
-    fields: &mut Split<'_, char>,
-) -> Raster
+/// The raster of a row that does not tell the steepness.
+pub(crate) fn read_at(rt: &impl Abort, alloc: Global, steep: u32, row: &str) -> Raster
     ensures { 0 < tiles_of result.scene.tiling }
 {
-    let (width, height) = (number(fields).clamp(1, 9), number(fields).clamp(1, 9));
-    let phases = samples(alloc, field(fields)).expect(rt, "memory");
-    let weights = samples(alloc, field(fields)).expect(rt, "memory");
-    let opened = samples(alloc, field(fields)).expect(rt, "memory");
-    let tiling = Tiling::new(width, height, 128);
+    let mut fields = row.split('|');
+    let (width, height) = (
+        number(&mut fields).clamp(1, 9),
+        number(&mut fields).clamp(1, 9),
+    );
+    let phases = samples(alloc, field(&mut fields)).expect(rt, "memory");
+    let weights = samples(alloc, field(&mut fields)).expect(rt, "memory");
+    let opened = samples(alloc, field(&mut fields)).expect(rt, "memory");
+    let (tiling, terms) = (Tiling::new(width, height, 128), terms_at(steep));
     let scene = scene_on(alloc, terms, tiling, 9, &phases, &weights).expect(rt, "a scene");
     assert!(rt; 0 < scene.tiling.tile_count());
     Raster { scene, opened }

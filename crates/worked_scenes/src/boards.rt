@@ -2,7 +2,7 @@
 ghost use Rattle.std.specs.Prelude.{◌≡◌, ◌≤◌, [], IfOk};
 
 use insar_ports::{Feed, MemorySource};
-use raster_model::{MAX_TILE_SIDE, MIN_TILE_SIDE, RuleKind, Session};
+use raster_model::{MAX_TILE_SIDE, MIN_TILE_SIDE, RuleKind, Session, Terms};
 use session_script::{SessionFault, SessionUse, read_session};
 use std::alloc::{AllocError, Global};
 use std::sync::Arc;
@@ -31,6 +31,19 @@ pub fn board(alloc: Global, text: &str, side: u32) -> Result<Board, SessionFault
     requires { (MIN_TILE_SIDE ≤ side) × (side ≤ MAX_TILE_SIDE) }
     ensures { IfOk result (λ board. board.entries ≡ []) }
 {
+    board_on(alloc, Terms::plain(), text, side)
+}
+
+/// The same on these terms.
+pub fn board_on(
+    alloc: Global,
+    terms: Terms,
+    text: &str,
+    side: u32,
+) -> Result<Board, SessionFault>
+    requires { (MIN_TILE_SIDE ≤ side) × (side ≤ MAX_TILE_SIDE) }
+    ensures { IfOk result (λ board. board.entries ≡ []) }
+{
     let session = session(alloc, text, side)?;
-    Ok(begun(alloc, session)?)
+    Ok(begun(alloc, session.with_terms(terms))?)
 }

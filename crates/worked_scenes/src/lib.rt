@@ -5,6 +5,6 @@ mod boards;
 mod rows;
 mod scenes;
 
-pub use crate::boards::{board, session};
+pub use crate::boards::{board, board_on, session};
 pub use crate::rows::{cycles, field, number, numbers, samples};
 pub use crate::scenes::{SceneFault, masked, plane, scene, scene_on, tile_result};

@@ -1,14 +1,15 @@
 ghost use Rattle.std.specs.Prelude.{◌≡◌, ◌&&◌, if◌then◌else◌, nat_le, pos, true};
 
 use crate::outcomes::same;
+use crate::reading::{TURN, read_raster};
 use raster_model::{Edge, Heights, Mask, Plane, Rect, Tiling, Window, plain};
-use std::alloc::{AllocError, Global};
+use std::alloc::Global;
 use std::process::Abort;
-use worked_scenes::{number, plane, scene};
+use worked_scenes::{field, masked, number, plane};
 
 /// The phase, raised by whole cycles in a box.
 #[derive(Drop)]
-struct Raised {
+pub(crate) struct Raised {
     rect: Rect,
     cycles: i8,
 }
@@ -42,31 +43,31 @@ const SHAPES: &str = "\
 3 1 8 = None";
 
 /// The first reason why there is no plane of these numbers.
-fn refused(alloc: Global, numbers: &str) -> Result<String, AllocError> {
+fn refused(rt: &impl Abort, alloc: Global, numbers: &str) -> String {
     let mut words = numbers.split(' ');
     let (width, height) = (number(&mut words), number(&mut words));
-    let maxval = words.next().unwrap_or("").parse().unwrap_or(0);
-    let samples = vec![in alloc; 5, 7, 8]?;
+    let maxval = field(&mut words).parse().unwrap_or(0);
+    let samples = vec![in alloc; 5, 7, 8].expect(rt, "memory");
     let reason = Plane::new(width, height, maxval, samples).err();
-    format!(in alloc; "{reason:?}")
+    format!(in alloc; "{reason:?}").expect(rt, "memory")
 }
 
 #[test]
 fn tells_the_first_reason_why_there_is_no_plane(rt: HostRuntime) {
     for row in SHAPES.lines() {
         let (numbers, wanted) = row.split_once(" = ").unwrap_or((row, ""));
-        let found = refused(rt.alloc(), numbers).expect(&rt, "memory");
+        let found = refused(&rt, rt.alloc(), numbers);
         same(&rt, numbers, &found, wanted);
     }
 }
 
 /// Which pixels are open, row by row, `1` if one is.
-fn add_opened(mask: &Mask, text: &mut String) -> Result<(), AllocError> {
+pub(crate) fn add_opened(rt: &impl Abort, mask: &Mask, text: &mut String) {
     for place in 0..mask.width() * mask.height() {
         let is_open = mask.is_open(place % mask.width(), place / mask.width());
-        text.push(if is_open { '1' } else { '0' })?;
+        text.push(if is_open { '1' } else { '0' })
+            .expect(rt, "memory");
     }
-    Ok(())
 }
 
 /// The mask of the pixels `0 1 / 9 0`.
@@ -85,25 +86,25 @@ fn masks_are_zero_samples(rt: HostRuntime) {
     copy.set(0, 0, true);
     copy.set(1, 0, false);
     let mut text = String::new(rt.alloc());
-    add_opened(&mask, &mut text).expect(&rt, "memory");
-    add_opened(&copy, &mut text).expect(&rt, "memory");
+    add_opened(&rt, &mask, &mut text);
+    add_opened(&rt, &copy, &mut text);
     same(&rt, "a mask and its copy", &text, "01101010");
 }
 
 /// The tile of each pixel, row by row.
-fn add_tiles(tiling: &Tiling, text: &mut String) -> Result<(), AllocError> {
+fn add_tiles(rt: &impl Abort, tiling: &Tiling, text: &mut String) {
     for place in 0..tiling.width * tiling.height {
         let tile = tiling.tile_of(place % tiling.width, place / tiling.width);
-        text.push(char::from_digit(tile, 10).unwrap_or('.'))?;
+        text.push(char::from_digit(tile, 10).unwrap_or('.'))
+            .expect(rt, "memory");
     }
-    Ok(())
 }
 
 #[test]
 fn numbers_tiles_row_by_row(rt: HostRuntime) {
     let tiling = Tiling::new(7, 5, 3);
     let mut text = String::new(rt.alloc());
-    add_tiles(&tiling, &mut text).expect(&rt, "memory");
+    add_tiles(&rt, &tiling, &mut text);
     same(&rt, "tiles", &text, "00011120001112000111233344453334445");
     let last = Window {
         x0: 6,
@@ -114,24 +115,23 @@ fn numbers_tiles_row_by_row(rt: HostRuntime) {
     assert!(rt; tiling.tile_count() == 6 && tiling.window(5) == last);
 }
 
-/// The surface of a full turn whose third pixel lies one cycle lower.
-fn lowered() -> Raised {
+/// The phase, raised at one pixel.
+pub(crate) fn lifted(x: u32, y: u32, cycles: i8) -> Raised {
     let rect = Rect {
-        x0: 0,
-        y0: 1,
-        x1: 0,
-        y1: 1,
+        x0: x,
+        y0: y,
+        x1: x,
+        y1: y,
     };
-    Raised { rect, cycles: -1 }
+    Raised { rect, cycles }
 }
 
-/// The weights `5 5 / 3 9`: each slow call is made once.
+/// A full turn whose third pixel lies one cycle lower: each slow call is made once.
 #[test]
 fn a_residue_costs_its_lightest_edge(rt: HostRuntime) {
-    let (tiling, phases) = (Tiling::new(2, 2, 128), [0, 16384, 49152, 32768]);
-    let scene = scene(rt.alloc(), tiling, 9, &phases, &[5, 5, 3, 9]).expect(&rt, "a scene");
-    let mask = Mask::all_open(rt.alloc(), 2, 2).expect(&rt, "memory");
-    let heights = lowered();
+    let scene = read_raster(&rt, rt.alloc(), TURN).scene;
+    let mask = masked(rt.alloc(), &scene.tiling, &[1; 4]).expect(&rt, "a mask");
+    let heights = lifted(0, 1, -1);
     let bottom = Edge {
         x: 0,
         y: 1,

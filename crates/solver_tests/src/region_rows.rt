@@ -1,8 +1,9 @@
 use crate::outcomes::same;
 use raster_model::Tiling;
 use seam_regions::Regions;
-use std::alloc::{AllocError, Global};
-use worked_scenes::{SceneFault, field, masked, number, samples};
+use std::alloc::Global;
+use std::process::Abort;
+use worked_scenes::{field, masked, number, samples};
 
 /// Width and height of a raster and the side of its tiles, its mask by rows, 1 if a pixel is open, the count of its
 /// regions, each pixel's label by rows, and the region of the last pixel. By hand: a masked column splits the upper tile
@@ -25,31 +26,31 @@ fn tiling(field: &str) -> Tiling {
 }
 
 /// Labels as digits, and a point if there is none.
-fn drawn(alloc: Global, labels: &[u32]) -> Result<String, AllocError> {
+fn drawn(rt: &impl Abort, alloc: Global, labels: &[u32]) -> String {
     let mut text = String::new(alloc);
     for &label in labels {
-        text.push(char::from_digit(label, 10).unwrap_or('.'))?;
+        text.push(char::from_digit(label, 10).unwrap_or('.'))
+            .expect(rt, "memory");
     }
-    Ok(text)
+    text
 }
 
 /// The regions of a mask in words.
-fn told(alloc: Global, tiling: Tiling, open: &[u16]) -> Result<String, SceneFault> {
-    let mask = masked(alloc, &tiling, open)?;
-    let regions = Regions::of(alloc, &tiling, &mask)?;
-    let labels = drawn(alloc, regions.labels())?;
+fn told(rt: &impl Abort, alloc: Global, tiling: Tiling, open: &str) -> String {
+    let open = samples(alloc, open).expect(rt, "memory");
+    let mask = masked(alloc, &tiling, &open).expect(rt, "a mask");
+    let regions = Regions::of(alloc, &tiling, &mask).expect(rt, "memory");
+    let labels = drawn(rt, alloc, regions.labels());
     let last = regions.region(tiling.width - 1, tiling.height - 1);
-    Ok(format!(in alloc; "{} {labels} {last:?}", regions.count())?)
+    format!(in alloc; "{} {labels} {last:?}", regions.count()).expect(rt, "memory")
 }
 
 #[test]
 fn regions_are_numbered_by_their_first_pixels(rt: HostRuntime) {
-    let alloc = rt.alloc();
     for row in ROWS.lines() {
         let mut fields = row.split('|');
         let tiling = tiling(field(&mut fields));
-        let open = samples(alloc, field(&mut fields)).expect(&rt, "memory");
-        let found = told(alloc, tiling, &open).expect(&rt, "a mask");
+        let found = told(&rt, rt.alloc(), tiling, field(&mut fields));
         same(&rt, row, &found, field(&mut fields));
     }
 }

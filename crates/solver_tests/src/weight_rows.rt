@@ -3,30 +3,32 @@ ghost use Rattle.std.specs.Prelude.{◌≡◌, ◌≤◌};
 use crate::outcomes::{holds, same};
 use edge_weights::WeightRule;
 use raster_model::{EdgeWeights, Plane, RuleKind, Tiling};
-use std::alloc::{AllocError, Global};
+use std::alloc::Global;
 use std::process::Abort;
 use worked_scenes::plane;
 
 /// The weights of edges by the rule least.
-fn least(alloc: Global, maxval: u16, weights: &Plane) -> Result<EdgeWeights, AllocError>
+fn least(rt: &impl Abort, alloc: Global, maxval: u16, weights: &Plane) -> EdgeWeights
     requires { weights.now.maxval ≡ maxval }
 {
-    let number = Box::new(alloc, |a: u16, b: u16| a.min(b))?;
-    WeightRule::new(RuleKind::Least, maxval, number).weigh(alloc, weights)
+    let number = Box::new(alloc, |a: u16, b: u16| a.min(b)).expect(rt, "memory");
+    let rule = WeightRule::new(RuleKind::Least, maxval, number);
+    rule.weigh(alloc, weights).expect(rt, "memory")
 }
 
 /// The same by the rule mean.
-fn mean(alloc: Global, weights: &Plane) -> Result<EdgeWeights, AllocError>
+fn mean(rt: &impl Abort, alloc: Global, weights: &Plane) -> EdgeWeights
     requires { weights.now.maxval ≡ 9 }
 {
     let number = Box::new(alloc, |a: u16, b: u16| {
         ((u32::from(a) + u32::from(b)) / 2) as u16
-    })?;
-    WeightRule::new(RuleKind::Mean, 9, number).weigh(alloc, weights)
+    });
+    let rule = WeightRule::new(RuleKind::Mean, 9, number.expect(rt, "memory"));
+    rule.weigh(alloc, weights).expect(rt, "memory")
 }
 
 /// The same by the rule product.
-fn product(alloc: Global, weights: &Plane) -> Result<EdgeWeights, AllocError>
+fn product(rt: &impl Abort, alloc: Global, weights: &Plane) -> EdgeWeights
     requires { weights.now.maxval ≡ 9 }
 {
     let number = Box::new(
@@ -34,24 +36,24 @@ fn product(alloc: Global, weights: &Plane) -> Result<EdgeWeights, AllocError>
         |a: u16, b: u16| -> u16
             requires { (a ≤ 9) × (b ≤ 9) }
         { (u32::from(a) * u32::from(b) / 9) as u16 },
-    )?;
-    WeightRule::new(RuleKind::Product, 9, number).weigh(alloc, weights)
+    );
+    let rule = WeightRule::new(RuleKind::Product, 9, number.expect(rt, "memory"));
+    rule.weigh(alloc, weights).expect(rt, "memory")
 }
 
 /// The same by a rule.
-fn weighed(alloc: Global, rule: RuleKind, weights: &Plane) -> Result<EdgeWeights, AllocError>
+fn weighed(rt: &impl Abort, alloc: Global, rule: RuleKind, weights: &Plane) -> EdgeWeights
     requires { weights.now.maxval ≡ 9 }
 {
     match rule {
-        RuleKind::Least => least(alloc, 9, weights),
-        RuleKind::Mean => mean(alloc, weights),
-        RuleKind::Product => product(alloc, weights),
+        RuleKind::Least => least(rt, alloc, 9, weights),
+        RuleKind::Mean => mean(rt, alloc, weights),
+        RuleKind::Product => product(rt, alloc, weights),
     }
 }
 
 /// The weights of right edges and of down edges, in words.
-fn told(rt: &impl Abort, alloc: Global, weighed: Result<EdgeWeights, AllocError>) -> String {
-    let edges = weighed.expect(rt, "memory");
+fn told(rt: &impl Abort, alloc: Global, edges: &EdgeWeights) -> String {
     format!(in alloc; "{:?} {:?}", edges.right, edges.down).expect(rt, "memory")
 }
 
@@ -69,7 +71,7 @@ fn weighs_a_square_by_each_rule(rt: HostRuntime) {
         .iter()
         .zip(RULES.lines())
     {
-        let found = told(&rt, alloc, weighed(alloc, *rule, &weights));
+        let found = told(&rt, alloc, &weighed(&rt, alloc, *rule, &weights));
         holds(&rt, row, row.ends_with(found.as_str()));
     }
 }
@@ -79,6 +81,6 @@ fn weighs_a_square_by_each_rule(rt: HostRuntime) {
 fn a_line_has_no_down_edges(rt: HostRuntime) {
     let alloc = rt.alloc();
     let line = plane(alloc, &Tiling::new(3, 1, 2), 300, &[300, 256, 299]).expect(&rt, "a plane");
-    let edges = told(&rt, alloc, least(alloc, 300, &line));
+    let edges = told(&rt, alloc, &least(&rt, alloc, 300, &line));
     same(&rt, "a line", &edges, "[256, 256] []");
 }

@@ -3,7 +3,7 @@ ghost use Rattle.std.specs.Prelude.{◌≡◌, ◌*◌, ◌<◌, ◌≤◌, IsTr
 
 use crate::outcomes::same;
 use auto_masks::Patches;
-use std::alloc::{AllocError, Global};
+use std::alloc::Global;
 use std::process::Abort;
 use worked_scenes::{field, number, numbers};
 
@@ -19,40 +19,32 @@ const ROWS: &str = "\
 2|1|0 0|0 ..";
 
 /// Adds the labels of the first `width` pixels of row `y`, with a point where there is none.
-fn tell_row(text: &mut String, patches: &Patches, width: u32, y: u32) -> Result<(), AllocError>
+fn tell_row(rt: &impl Abort, text: &mut String, patches: &Patches, width: u32, y: u32)
     requires { (width ≤ patches.now.width) × (y < patches.now.height) }
 {
     for x in 0..width {
         let label = patches.label(x, y);
         let digit = label.and_then(|label| char::from_digit(label, 10));
-        text.push(digit.unwrap_or('.'))?;
+        text.push(digit.unwrap_or('.')).expect(rt, "memory");
     }
-    Ok(())
 }
 
 /// Adds the labels of the first `height` rows.
-fn tell_rows(
-    text: &mut String,
-    patches: &Patches,
-    width: u32,
-    height: u32,
-) -> Result<(), AllocError>
+fn tell_rows(rt: &impl Abort, text: &mut String, patches: &Patches, width: u32, height: u32)
     requires { (width ≤ patches.now.width) × (height ≤ patches.now.height) }
 {
     for y in 0..height {
-        tell_row(text, patches, width, y)?;
+        tell_row(rt, text, patches, width, y);
     }
-    Ok(())
 }
 
 /// Adds each patch with its first pixel and its size.
-fn tell_patches(alloc: Global, text: &mut String, patches: &Patches) -> Result<(), AllocError> {
+fn tell_patches(rt: &impl Abort, alloc: Global, text: &mut String, patches: &Patches) {
     for label in 0..patches.count() {
-        let (x, y) = patches.first(label);
-        let size = patches.size(label);
-        text.push_str(&format!(in alloc; " ({x}, {y}) {size}")?)?;
+        let ((x, y), size) = (patches.first(label), patches.size(label));
+        let patch = format!(in alloc; " ({x}, {y}) {size}").expect(rt, "memory");
+        text.push_str(&patch).expect(rt, "memory");
     }
-    Ok(())
 }
 
 /// The patches of keys in words.
@@ -62,8 +54,8 @@ fn told(rt: &impl Abort, alloc: Global, width: u32, height: u32, keys: &[i64]) -
 {
     let patches = Patches::of(alloc, width, height, keys).expect(rt, "memory");
     let mut text = format!(in alloc; "{} ", patches.count()).expect(rt, "memory");
-    tell_rows(&mut text, &patches, width, height).expect(rt, "memory");
-    tell_patches(alloc, &mut text, &patches).expect(rt, "memory");
+    tell_rows(rt, &mut text, &patches, width, height);
+    tell_patches(rt, alloc, &mut text, &patches);
     text
 }
 

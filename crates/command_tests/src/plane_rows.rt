@@ -2,7 +2,7 @@ use crate::outcomes::same;
 use insar_ports::{Feed, MemorySink, MemorySource};
 use pgm_planes::{ReadPlaneFault, Role, read_plane, write_plane};
 use raster_model::Plane;
-use std::alloc::{AllocError, Global};
+use std::alloc::Global;
 use std::process::Abort;
 use std::str::Split;
 use worked_scenes::{field, number};
@@ -78,14 +78,15 @@ const TEXTS: &str = "\
     Weight|16|P2 1 1 255 9999 P|Plane(SampleAbove { index: 0, value: 9999 });";
 
 /// The plane that is read, or the fault, in words.
-fn told(alloc: Global, read: Result<Plane, ReadPlaneFault>) -> Result<String, AllocError> {
-    match read {
+fn told(rt: &impl Abort, alloc: Global, read: Result<Plane, ReadPlaneFault>) -> String {
+    let told = match read {
         Ok(plane) => format!(in alloc;
             "{} {} {} {:?}",
             plane.width, plane.height, plane.maxval, plane.samples
         ),
         Err(fault) => format!(in alloc; "{fault:?}"),
-    }
+    };
+    told.expect(rt, "memory")
 }
 
 /// What is told of the text of a case, which begins with the role and the limit.
@@ -97,7 +98,7 @@ fn case_told(rt: &impl Abort, alloc: Global, fields: &mut Split<'_, char>) -> St
     };
     let limit = u64::from(number(fields));
     let read = read(rt, alloc, role, limit, field(fields).as_bytes());
-    told(alloc, read).expect(rt, "memory")
+    told(rt, alloc, read)
 }
 
 #[test]

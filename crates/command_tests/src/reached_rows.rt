@@ -1,8 +1,7 @@
 use crate::whole_rows::trial;
 use raster_model::{Mask, Scene, Session, wrapped};
-use std::alloc::{AllocError, Global};
+use std::alloc::Global;
 use std::process::Abort;
-use std::test::Fail;
 use std::thread::Threads;
 use whole_guess::{Guess, Reached, guess_whole_within};
 
@@ -140,33 +139,31 @@ fn left_after<R: Abort + Threads + Sync>(
     alloc: Global,
     session: &Session,
     patience: u64,
-) -> Result<Option<u32>, AllocError> {
+) -> Option<u32> {
     let (scene, mask) = (&session.scene, &session.first_mask);
-    match guess_whole_within(rt, alloc, scene, mask, 2, patience)? {
-        Guess::Surface { .. } => Ok(Some(0)),
-        Guess::Reached(reached) => {
-            let place = Place {
-                scene,
-                mask,
-                reached: &reached,
-                width: scene.phase.width,
-                height: scene.phase.height,
-            };
-            Ok(place.unbalanced())
-        }
-    }
+    let guess = guess_whole_within(rt, alloc, scene, mask, 2, patience).expect(rt, "memory");
+    let Guess::Reached(reached) = guess else {
+        return Some(0);
+    };
+    let place = Place {
+        scene,
+        mask,
+        reached: &reached,
+        width: scene.phase.width,
+        height: scene.phase.height,
+    };
+    place.unbalanced()
 }
 
 /// What a guess has reached when its patience ends fits, and the more patience it has the less is left.
 #[test]
-fn what_was_reached_fits(rt: HostRuntime) -> Result<(), Fail> {
-    let session = trial(&rt, rt.alloc(), 7, 96, 70)?;
+fn what_was_reached_fits(rt: HostRuntime) {
+    let session = trial(&rt, rt.alloc(), 7, 96, 70);
     let mut before = u32::MAX;
     for patience in [0, 1, 2] {
-        let left = left_after(&rt, rt.alloc(), &session, patience)?.unwrap_or(u32::MAX);
+        let left = left_after(&rt, rt.alloc(), &session, patience).unwrap_or(u32::MAX);
         assert!(rt; left < before);
         before = left;
     }
     assert!(rt; before == 0);
-    Ok(())
 }

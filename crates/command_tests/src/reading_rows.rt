@@ -1,21 +1,11 @@
-use crate::outcomes::same;
-use grid_writer::{Grid, GridFault, read_grid};
+use crate::outcomes::{changed, same};
+use grid_writer::read_grid;
 use insar_ports::{Feed, MemorySource};
 use report_check::{CheckVerdict, check_report};
 use report_text::{Report, ReportFault, read_report};
-use std::alloc::{AllocError, Global};
-use std::str::Split;
+use std::alloc::Global;
+use std::process::Abort;
 use worked_scenes::{field, session};
-
-/// The text with the second field of a case in the place of the first.
-fn changed(
-    alloc: Global,
-    text: &str,
-    fields: &mut Split<'static, char>,
-) -> Result<String, AllocError> {
-    let old = field(fields);
-    text.replace(alloc, old, field(fields))
-}
 
 const GRID: &str = "\
 ncols 2
@@ -33,26 +23,23 @@ const GRIDS: &str = "\
     50000|-0|Line(7);\
     75536\n|75536|Line(7);";
 
-fn read_as_grid(alloc: Global, text: String) -> Result<Grid, GridFault> {
-    let mut source = MemorySource::new(text.into_bytes(), 7, Vec::new(alloc));
-    let mut feed = Feed::new(alloc, &mut source, 1000)?;
-    read_grid(alloc, &mut feed)
-}
-
 /// The grid that is read of a text, or the fault, in words.
-fn grid_told(alloc: Global, text: String) -> Result<String, AllocError> {
-    match read_as_grid(alloc, text) {
+fn grid_told(rt: &impl Abort, alloc: Global, text: String) -> String {
+    let mut source = MemorySource::new(text.into_bytes(), 7, Vec::new(alloc));
+    let mut feed = Feed::new(alloc, &mut source, 1000).expect(rt, "memory");
+    let told = match read_grid(alloc, &mut feed) {
         Ok(grid) => format!(in alloc; "{} {} {:?}", grid.width, grid.height, grid.values),
         Err(fault) => format!(in alloc; "{fault:?}"),
-    }
+    };
+    told.expect(rt, "memory")
 }
 
 #[test]
 fn a_grid_is_read_or_its_first_broken_line_is_told(rt: HostRuntime) {
     for case in GRIDS.split_terminator(';') {
         let mut fields = case.split('|');
-        let text = changed(rt.alloc(), GRID, &mut fields).expect(&rt, "memory");
-        let told = grid_told(rt.alloc(), text).expect(&rt, "memory");
+        let text = changed(&rt, rt.alloc(), GRID, &mut fields);
+        let told = grid_told(&rt, rt.alloc(), text);
         same(&rt, case, &told, field(&mut fields));
     }
 }
@@ -92,37 +79,30 @@ const REPORTS: &str = "\
     1\nsize 2 2\ntile 64\nrule least|2\nsize 2 2\ntile 64\nrule least\nramp 00 0\nsteep 1|Line(5);\
     insar-report 1|insar-report 3|Line(1);";
 
-fn read_as_report(alloc: Global, text: String) -> Result<Report, ReportFault> {
+fn read_as_report(rt: &impl Abort, alloc: Global, text: String) -> Result<Report, ReportFault> {
     let mut source = MemorySource::new(text.into_bytes(), 7, Vec::new(alloc));
-    let Ok(mut feed) = Feed::new(alloc, &mut source, 1000) else {
-        return Err(ReportFault::Memory);
-    };
+    let mut feed = Feed::new(alloc, &mut source, 1000).expect(rt, "memory");
     read_report(alloc, &mut feed)
 }
 
 /// The terms and how many items are read of a text, or the fault, in words.
-fn report_told(alloc: Global, text: String) -> Result<String, AllocError> {
-    match read_as_report(alloc, text) {
+fn report_told(rt: &impl Abort, alloc: Global, text: String) -> String {
+    let told = match read_as_report(rt, alloc, text) {
         Ok(report) => {
-            let terms = report.terms;
-            format!(in alloc;
-                "{} {} {} {}",
-                terms.ramp_x,
-                terms.ramp_y,
-                terms.steep,
-                report.items.len()
-            )
+            let (terms, items) = (report.terms, report.items.len());
+            format!(in alloc; "{} {} {} {items}", terms.ramp_x, terms.ramp_y, terms.steep)
         }
         Err(fault) => format!(in alloc; "{fault:?}"),
-    }
+    };
+    told.expect(rt, "memory")
 }
 
 #[test]
 fn a_report_is_read_or_its_first_broken_line_is_told(rt: HostRuntime) {
     for case in REPORTS.split_terminator(';') {
         let mut fields = case.split('|');
-        let text = changed(rt.alloc(), REPORT, &mut fields).expect(&rt, "memory");
-        let told = report_told(rt.alloc(), text).expect(&rt, "memory");
+        let text = changed(&rt, rt.alloc(), REPORT, &mut fields);
+        let told = report_told(&rt, rt.alloc(), text);
         same(&rt, case, &told, field(&mut fields));
     }
 }
@@ -146,7 +126,7 @@ fn a_certified_report_is_accepted(rt: HostRuntime) {
     let alloc = rt.alloc();
     let session = session(alloc, SESSION, 64).expect(&rt, "a session");
     let text = String::from_str(alloc, REPORT).expect(&rt, "memory");
-    let report = read_as_report(alloc, text).expect(&rt, "a report");
+    let report = read_as_report(&rt, alloc, text).expect(&rt, "a report");
     let verdict = check_report(alloc, &session, &report).expect(&rt, "memory");
     assert!(rt; verdict == CheckVerdict::Accepted);
 }

@@ -1,10 +1,10 @@
 ghost use Rattle.auto_masks.specs.Screened.{AreScreenTerms};
-ghost use Rattle.std.specs.Prelude.{◌≡◌, IfOk};
+ghost use Rattle.std.specs.Prelude.{◌≡◌};
 
 use crate::outcomes::holds;
 use auto_masks::{Screen, ScreenTerms};
 use raster_model::{Mask, Plane};
-use std::alloc::{AllocError, Global};
+use std::alloc::Global;
 use std::process::Abort;
 use worked_scenes::{field, number, samples};
 
@@ -42,34 +42,33 @@ fn terms_of(field: &str) -> ScreenTerms
     }
 }
 
-/// The first row of a mask.
-fn told(alloc: Global, mask: &Mask) -> Result<String, AllocError> {
-    let mut text = String::new(alloc);
-    if mask.height() == 0 {
-        return Ok(text);
-    }
+/// Adds the first row of a mask, `1` where a pixel is open.
+fn tell(rt: &impl Abort, mask: &Mask, text: &mut String) {
+    assert!(rt; mask.height() > 0);
     for x in 0..mask.width() {
-        text.push(if mask.is_open(x, 0) { '1' } else { '0' })?;
+        text.push(if mask.is_open(x, 0) { '1' } else { '0' })
+            .expect(rt, "memory");
     }
-    Ok(text)
 }
 
 /// What a screen makes of a mask.
 fn screened(
+    rt: &impl Abort,
     alloc: Global,
     terms: ScreenTerms,
     weights: &Plane,
     mask: &Mask,
-) -> Result<Mask, AllocError>
+) -> Mask
     requires ranged { AreScreenTerms terms }
     requires across { mask.now.width ≡ weights.now.width }
     requires along { mask.now.height ≡ weights.now.height }
-    ensures { IfOk result (λ made. (made.width ≡ weights.now.width) × (made.height ≡ weights.now.height)) }
+    ensures { (result.width ≡ weights.now.width) × (result.height ≡ weights.now.height) }
 {
     let is_enough = Box::new(alloc, move |weight: u16, count: u32| {
         terms.weight <= weight && terms.count <= count
-    })?;
-    Screen::new(terms, is_enough).apply(alloc, weights, mask)
+    });
+    let screen = Screen::new(terms, is_enough.expect(rt, "memory"));
+    screen.apply(alloc, weights, mask).expect(rt, "memory")
 }
 
 /// The masks that a screen makes of open pixels with these weights, one of the other.
@@ -77,15 +76,13 @@ fn twice(rt: &impl Abort, alloc: Global, terms: ScreenTerms, weights: &Plane) ->
     requires { AreScreenTerms terms }
 {
     let open = Mask::all_open(alloc, weights.width, weights.height).expect(rt, "memory");
-    let once = screened(alloc, terms, weights, &open).expect(rt, "memory");
-    let twice = screened(alloc, terms, weights, &once).expect(rt, "memory");
-    let (once, twice) = (told(alloc, &once), told(alloc, &twice));
-    format!(in alloc;
-        "{}|{}",
-        once.expect(rt, "memory"),
-        twice.expect(rt, "memory")
-    )
-    .expect(rt, "memory")
+    let once = screened(rt, alloc, terms, weights, &open);
+    let twice = screened(rt, alloc, terms, weights, &once);
+    let mut text = String::new(alloc);
+    tell(rt, &once, &mut text);
+    text.push('|').expect(rt, "memory");
+    tell(rt, &twice, &mut text);
+    text
 }
 
 #[test]

@@ -4,7 +4,7 @@ use crate::outcomes::same;
 use displacement::{MAX_BLOCK, MAX_WAVELENGTH, Sight, SightFault, displace};
 use grid_writer::{Grid, read_grid};
 use insar_ports::{Feed, MemorySource};
-use std::alloc::{AllocError, Global};
+use std::alloc::Global;
 use std::process::Abort;
 use std::str::Split;
 use worked_scenes::{field, number};
@@ -51,18 +51,19 @@ fn sight_of(fields: &mut Split<'_, char>) -> Sight
 }
 
 /// What is answered, in words.
-fn told(alloc: Global, answered: Result<Grid, SightFault>) -> Result<String, AllocError> {
-    match answered {
+fn told(rt: &impl Abort, alloc: Global, answered: Result<Grid, SightFault>) -> String {
+    let told = match answered {
         Ok(grid) => format!(in alloc; "{} {} {:?}", grid.width, grid.height, grid.values),
         Err(fault) => format!(in alloc; "{fault:?}"),
-    }
+    };
+    told.expect(rt, "memory")
 }
 
 /// What is answered for a row, in words, with `N` for NODATA.
 fn displaced(rt: &impl Abort, alloc: Global, fields: &mut Split<'_, char>) -> String {
     let grid = grid_of(rt, alloc, fields);
     let answered = displace(alloc, &grid, sight_of(fields));
-    let told = told(alloc, answered).expect(rt, "memory");
+    let told = told(rt, alloc, answered);
     told.replace(alloc, "-9223372036854775808", "N")
         .expect(rt, "memory")
 }

@@ -1,14 +1,14 @@
+use crate::outcomes::{changed, same};
 use insar_ports::{Feed, MemorySource};
-use raster_model::{RuleKind, Session};
-use session_script::{SessionFault, SessionUse, read_session};
-use std::alloc::{AllocError, Global};
-use std::str::Split;
-use text_lines::LineFault;
+use raster_model::Session;
+use std::alloc::Global;
+use std::process::Abort;
 use whole_check::check_whole_text;
-use whole_text::{Whole, read_whole};
+use whole_text::read_whole;
+use worked_scenes::{field, session};
 
 /// The phase rises by a quarter of a cycle from pixel to pixel round the one cell, so its residue is 1. Each weight is 1.
-const SESSION: &[u8] = b"\
+const SESSION: &str = "\
 P2
 2 2
 65535
@@ -56,50 +56,25 @@ const VERDICTS: &str = "\
     end\n||Line(16);\
     end|end\n|Line(17);";
 
-/// The next field of a case, or an empty one.
-fn field(fields: &mut Split<'static, char>) -> &'static str {
-    fields.next().unwrap_or("")
-}
-
-/// The text with the second field of a case in the place of the first.
-fn changed(
-    alloc: Global,
-    text: &str,
-    fields: &mut Split<'static, char>,
-) -> Result<String, AllocError> {
-    let old = field(fields);
-    text.replace(alloc, old, field(fields))
-}
-
-fn read_as_session(alloc: Global, text: Vec<u8>) -> Result<Session, SessionFault> {
-    let mut source = MemorySource::new(text, 9, Vec::new(alloc));
-    let mut feed = Feed::new(alloc, &mut source, 268_435_456)?;
-    read_session(alloc, &mut feed, SessionUse::Alone, 64, RuleKind::Least)
-}
-
-fn read_as_whole(alloc: Global, text: String) -> Result<Whole, LineFault> {
-    let mut source = MemorySource::new(text.into_bytes(), 7, Vec::new(alloc));
-    let mut feed = Feed::new(alloc, &mut source, 1000)?;
-    read_whole(alloc, &mut feed)
-}
-
 /// The verdict on a text, or the fault of the text, in words.
-fn verdict_told(alloc: Global, session: &Session, text: String) -> Result<String, AllocError> {
-    match read_as_whole(alloc, text) {
+fn told(rt: &impl Abort, alloc: Global, session: &Session, text: String) -> String {
+    let mut source = MemorySource::new(text.into_bytes(), 7, Vec::new(alloc));
+    let mut feed = Feed::new(alloc, &mut source, 1000).expect(rt, "memory");
+    let told = match read_whole(alloc, &mut feed) {
         Ok(whole) => format!(in alloc; "{:?}", check_whole_text(session, &whole)),
         Err(fault) => format!(in alloc; "{fault:?}"),
-    }
+    };
+    told.expect(rt, "memory")
 }
 
 #[test]
 fn a_text_is_accepted_or_its_first_break_is_told(rt: HostRuntime) {
     let alloc = rt.alloc();
-    let text = Vec::from_slice(alloc, SESSION).expect(&rt, "memory");
-    let session = read_as_session(alloc, text).expect(&rt, "a session");
+    let session = session(alloc, SESSION, 64).expect(&rt, "a session");
     for case in VERDICTS.split_terminator(';') {
         let mut fields = case.split('|');
-        let text = changed(alloc, WHOLE, &mut fields).expect(&rt, "memory");
-        let told = verdict_told(alloc, &session, text).expect(&rt, "memory");
-        assert_eq!(rt; told.as_str(), field(&mut fields), "{case}");
+        let text = changed(&rt, alloc, WHOLE, &mut fields);
+        let told = told(&rt, alloc, &session, text);
+        same(&rt, case, &told, field(&mut fields));
     }
 }

@@ -1,12 +1,11 @@
 ghost use Rattle.raster_model.specs.Limits.{IsSteepness};
 ghost use Rattle.raster_model.specs.Tiles.{tiles_of};
-ghost use Rattle.std.specs.Prelude.{◌≡◌, ◌<◌, IfOk};
+ghost use Rattle.std.specs.Prelude.{◌≡◌, ◌<◌};
 
 use certificates::{TileResult, TileVerdict, check_tile};
 use raster_model::{Mask, RuleKind, Scene, Session, Terms};
-use std::alloc::{AllocError, Global};
+use std::alloc::Global;
 use std::process::Abort;
-use std::test::Fail;
 use std::thread::Threads;
 use trial_maker::make_session;
 use whole_guess::{Guess, guess_whole};
@@ -24,19 +23,28 @@ fn guessed<R: Abort + Threads + Sync>(
     mask: &Mask,
     workers: u32,
     faced: bool,
-) -> Result<TileResult, AllocError>
-    ensures { IfOk result (λ made. made.tile ≡ 0) }
+) -> TileResult
+    ensures { result.tile ≡ 0 }
 {
-    let Guess::Surface { cycles, faces } = guess_whole(rt, alloc, scene, mask, workers)? else {
-        return Err(AllocError);
+    let guess = guess_whole(rt, alloc, scene, mask, workers).expect(rt, "memory");
+    let Guess::Surface { cycles, faces } = guess else {
+        panic!(rt; "no surface");
     };
-    let mut short = Vec::new(alloc);
-    for number in &cycles {
-        short.push(i32::try_from(*number).unwrap_or(99))?;
-    }
-    let bare = vec![in alloc; 0; faces.len()]?;
+    let short = narrowed(rt, alloc, &cycles);
+    let bare = vec![in alloc; 0; faces.len()].expect(rt, "memory");
     let faces = if faced { faces } else { bare };
-    tile_result(alloc, 0, 0, &short, &faces)
+    tile_result(alloc, 0, 0, &short, &faces).expect(rt, "memory")
+}
+
+/// Cycles as numbers of 32 bits.
+fn narrowed(rt: &impl Abort, alloc: Global, cycles: &[i64]) -> Vec<i32> {
+    let mut short = Vec::new(alloc);
+    for number in cycles {
+        short
+            .push(i32::try_from(*number).unwrap_or(99))
+            .expect(rt, "memory");
+    }
+    short
 }
 
 /// What the check says of the guess at a raster of one tile.
@@ -46,42 +54,36 @@ fn verdict<R: Abort + Threads + Sync>(
     session: &Session,
     workers: u32,
     faced: bool,
-) -> Result<TileVerdict, AllocError>
+) -> TileVerdict
     requires { 0 < tiles_of session.now.scene.tiling }
 {
     let (scene, mask) = (&session.scene, &session.first_mask);
-    let solved = guessed(rt, alloc, scene, mask, workers, faced)?;
-    Ok(check_tile(scene, mask, &solved))
+    let solved = guessed(rt, alloc, scene, mask, workers, faced);
+    check_tile(scene, mask, &solved)
 }
 
 /// A trial of one tile.
-pub(crate) fn trial(
-    rt: &impl Abort,
-    alloc: Global,
-    seed: u64,
-    width: u32,
-    height: u32,
-) -> Result<Session, Fail>
-    ensures { IfOk result (λ made. 0 < tiles_of made.scene.tiling) }
+pub(crate) fn trial(rt: &impl Abort, alloc: Global, seed: u64, width: u32, height: u32) -> Session
+    ensures { 0 < tiles_of result.scene.tiling }
 {
-    let session = make_session(alloc, seed, width, height, 128, RuleKind::Least)?;
+    let made = make_session(alloc, seed, width, height, 128, RuleKind::Least);
+    let session = made.expect(rt, "a session");
     assert!(rt; 0 < session.scene.tiling.tile_count());
-    Ok(session)
+    session
 }
 
 /// The guesses are certified, and cost what another solver finds, with one worker and with three.
 #[test]
-fn guesses_cost_what_another_solver_finds(rt: HostRuntime) -> Result<(), Fail> {
+fn guesses_cost_what_another_solver_finds(rt: HostRuntime) {
     let alloc = rt.alloc();
     for (seed, width, height, cost) in TRIALS {
-        let session = trial(&rt, alloc, seed, width, height)?;
+        let session = trial(&rt, alloc, seed, width, height);
+        let counted = TileVerdict::CostDiffers { cost, bound: 0 };
         for workers in [1, 3] {
-            let counted = TileVerdict::CostDiffers { cost, bound: 0 };
-            assert!(rt; verdict(&rt, alloc, &session, workers, true)? == TileVerdict::Good);
-            assert!(rt; verdict(&rt, alloc, &session, workers, false)? == counted);
+            assert!(rt; verdict(&rt, alloc, &session, workers, true) == TileVerdict::Good);
+            assert!(rt; verdict(&rt, alloc, &session, workers, false) == counted);
         }
     }
-    Ok(())
 }
 
 /// A ramp with a steepness.
@@ -102,19 +104,18 @@ fn is_certified<R: Abort + Threads + Sync>(
     terms: Terms,
     width: u32,
     height: u32,
-) -> Result<bool, Fail> {
-    let session = trial(rt, alloc, 5, width, height)?.with_terms(terms);
+) -> bool {
+    let session = trial(rt, alloc, 5, width, height).with_terms(terms);
     assert!(rt; 0 < session.scene.tiling.tile_count());
-    Ok(verdict(rt, alloc, &session, 2, true)? == TileVerdict::Good)
+    verdict(rt, alloc, &session, 2, true) == TileVerdict::Good
 }
 
 /// So they are at other steepnesses, around ramps, and on rasters that are one pixel wide or high.
 #[test]
-fn guesses_are_certified_on_other_terms(rt: HostRuntime) -> Result<(), Fail> {
+fn guesses_are_certified_on_other_terms(rt: HostRuntime) {
     let alloc = rt.alloc();
-    assert!(rt; is_certified(&rt, alloc, leaned(2), 70, 40)?);
-    assert!(rt; is_certified(&rt, alloc, leaned(16), 40, 70)?);
-    assert!(rt; is_certified(&rt, alloc, leaned(3), 1, 50)?);
-    assert!(rt; is_certified(&rt, alloc, leaned(4), 50, 1)?);
-    Ok(())
+    assert!(rt; is_certified(&rt, alloc, leaned(2), 70, 40));
+    assert!(rt; is_certified(&rt, alloc, leaned(16), 40, 70));
+    assert!(rt; is_certified(&rt, alloc, leaned(3), 1, 50));
+    assert!(rt; is_certified(&rt, alloc, leaned(4), 50, 1));
 }

@@ -1,3 +1,4 @@
+ghost use Rattle.raster_model.specs.Scene.{raster_of};
 ghost use Rattle.raster_model.specs.Tiles.{tiles_of, window_of};
 ghost use Rattle.std.specs.Prelude.{◌≡◌, ◌<◌};
 ghost use Rattle.wrapped_gradient.specs.Gradients.{AreGradientsOf};
@@ -61,7 +62,7 @@ fn full_turn(rt: &impl Abort, alloc: Global) -> Scene
 fn gradients_of(rt: &impl Abort, alloc: Global, scene: &Scene) -> Gradients
     requires { 0 < tiles_of scene.now.tiling }
     ensures window { result.window ≡ window_of scene.now.tiling 0 }
-    ensures differences { AreGradientsOf scene.now result }
+    ensures differences { AreGradientsOf (raster_of scene.now) result }
 {
     Gradients::of(alloc, scene, scene.tiling.window(0)).expect(rt, "memory")
 }
@@ -155,11 +156,12 @@ const STARTS: &str = "\
 fn starts_as_told(rt: &impl Abort, alloc: Global, scene: &Scene, row: &str) -> bool
     requires { 0 < tiles_of scene.now.tiling }
 {
-    let gradients = gradients_of(rt, alloc, scene);
+    let (sheet, window) = (scene.sheet(), scene.tiling.window(0));
+    let gradients = Gradients::over(alloc, &sheet, window).expect(rt, "memory");
     let unmasked = unmasked(rt, alloc, scene, &[1; 4]);
     let Guess { right, down, faces } = guess(rt, alloc, row);
     let corrections = Corrections { right, down };
-    let grid = DualGrid::reached(alloc, scene, &gradients, &unmasked, corrections, &faces);
+    let grid = DualGrid::reached(alloc, &sheet, &gradients, &unmasked, corrections, &faces);
     grid.expect(rt, "memory").is_some() == row.ends_with("true")
 }
 

@@ -6,7 +6,7 @@ from typing import List, Sequence
 import numpy as np
 from osgeo import gdal
 
-from .rasters import create_like
+from .rasters import close, create_like
 
 gdal.UseExceptions()
 
@@ -36,6 +36,6 @@ def write_closing(names: Sequence[str]) -> List[str]:
         band = made.GetRasterBand(number)
         band.WriteArray(counts)
         band.SetDescription(content)
-    del band, made
+    close(made, part)
     os.replace(part, NAME)
     return others

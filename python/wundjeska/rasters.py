@@ -7,12 +7,14 @@ import os
 import re
 from argparse import ArgumentParser, ArgumentTypeError, Namespace
 from dataclasses import dataclass
+from functools import partial
 from pathlib import Path
 from typing import Any, Dict, List, Optional, Tuple, Union
 
 import numpy as np
 from osgeo import gdal
 
+from .layout import add_overviews, lay_out, options_for
 from .opening import Raw, check_bands, gdal_trouble
 from .opening import open_raster as open_raster
 from .outputs import PRODUCT
@@ -380,10 +382,8 @@ def create_like(
     Its pixels are blocks of so many of the other's a side; the last ones may reach beyond it.
     """
     size = [-(-length // block) for length in size_of(like)]
-    predictor = "PREDICTOR=3" if kind in (gdal.GDT_Float32, gdal.GDT_Float64) else "PREDICTOR=2"
-    options = ["TILED=YES", "COMPRESS=DEFLATE", predictor, "BIGTIFF=IF_SAFER"]
     try:
-        made = gdal.GetDriverByName("GTiff").Create(str(path), *size, bands, kind, options)
+        made = gdal.GetDriverByName("GTiff").Create(str(path), *size, bands, kind, options_for(kind))
     except RuntimeError as error:
         raise gdal_trouble(str(path), error) from error
     put_in_place(made, like, block)
@@ -437,11 +437,12 @@ def put_array(made: gdal.Dataset, values: np.ndarray, column: int = 0, row: int 
 
 
 def close(made: gdal.Dataset, path: Union[str, Path]) -> None:
-    """Writes what GDAL still holds. Trouble if not all of it could be written."""
+    """Writes what GDAL still holds, and lays the file out. Trouble if not all of it could be written."""
     gdal.ErrorReset()
-    try:
-        made.FlushCache()
-    except RuntimeError as error:
-        raise not_written(path, error) from error
-    if gdal.GetLastErrorType() >= gdal.CE_Failure:
-        raise not_written(path, gdal.GetLastErrorMsg())
+    for step in (gdal.Dataset.FlushCache, add_overviews, partial(lay_out, path)):
+        try:
+            step(made)
+        except RuntimeError as error:
+            raise not_written(path, error) from error
+        if gdal.GetLastErrorType() >= gdal.CE_Failure:
+            raise not_written(path, gdal.GetLastErrorMsg())

@@ -32,6 +32,21 @@ def count(colours: np.ndarray, colour: pictures.Colour) -> int:
     return int(np.all(colours == colour, axis=-1).sum())
 
 
+class Reduced(InFolder):
+    def test_a_large_raster_is_said_to_be_shown_reduced(self) -> None:
+        """Maps leave a masked pixel out in an odd row, which is counted."""
+        phase = np.zeros((61, 1500))
+        phase[31, 701] = np.nan
+        words = (raster(self.folder / "phase.tif", phase), "--no-filter", "--page", self.folder / "page.html", self.folder / "o.tif")
+        self.assertEqual(command("wundjeska", *words)[0], 0)
+        page = (self.folder / "page.html").read_text()
+        self.assertEqual(page.count("drawn from a reduced raster of 750 by 31 pixels, every second row and column;"), 1)
+        self.assertIn("91499 pixels have a value", page)
+        found = [picture(base64.b64decode(text)) for text in re.findall(r'href="data:image/png;base64,([^"]*)"', page)]
+        self.assertEqual({map_.shape for map_ in found}, {(31, 750, 3)})
+        self.assertEqual(count(found[1], MASKED), 0)
+
+
 class Page(InFolder):
     def test_axes_in_map_units(self) -> None:
         self.assertEqual(axes_of(open_raster(str(HERE / "kit/phase.tif"))), Axes(430, 449.2, 4520, 4504.4, "km", 1000, "WGS 84 / UTM zone 33N"))
@@ -73,6 +88,7 @@ class Page(InFolder):
 
     def test_what_the_page_has(self) -> None:
         page = self.page(self.report, 0)
+        self.assertNotIn("reduced raster", page)
         published, revised = self.report.count(b"\npublished "), self.report.count(b"\nrevised ")
         found = [picture(base64.b64decode(text)) for text in re.findall(r'href="data:image/png;base64,([^"]*)"', page)]
         self.assertEqual(len(found), 5 + (revised + 1) + (published - 1))  # five maps, masks, and earlier surfaces

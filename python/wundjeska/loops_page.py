@@ -9,7 +9,7 @@ from .components import components_of
 from .loops import Loops
 from .pages import COMMON, HINT, end_of, footer, head_of, map_script, scaled, words_said
 from .pictures import FALLING, MASKED, PLAIN, RISING, SIGNED, Axes, Bar, Colour, Values
-from .pictures import any_thinned, coloured, enlarged, map_of, mark_of, pixel_axes, reach_of, thinned
+from .pictures import any_thinned, coloured, enlarged, map_of, mark_of, pixel_axes, reach_of, thinned, thinned_words
 from .planes import CYCLE
 
 MAX_LISTED, SMALL = 100, 10  # patches in the table, and the pixels below which they are summed up
@@ -139,7 +139,7 @@ def page_of(loops: Loops, shown: Shown) -> str:
         [
             head_of(shown.title, script),
             f"<h1>{escape(shown.title)}</h1><p>The loop of three surfaces: first plus second minus third.</p><ol>{inputs}</ol>",
-            f"<p>{escape(level)} Cycles: {counts} pixels.</p>",
+            f"<p>{escape(level)} Cycles: {counts} pixels.{thinned_words((height, width))}</p>",
             f'<h2>Maps</h2><p class="hint">{HINT}</p><div class="row">{cycle_map(loops, axes, shown)}{closure_map(loops, axes)}</div>',
             f"<h2>Misclosed patches, the largest first</h2>{patch_table(loops)}",
             part_section(shown),

@@ -90,6 +90,16 @@ def thinned(raster: np.ndarray) -> np.ndarray:
     return raster[::step, ::step]
 
 
+def thinned_words(shape: Tuple[int, ...]) -> str:
+    """What is to be said of maps of a raster of this shape, if they leave pixels out; else nothing."""
+    step = step_of(shape)
+    if step == 1:
+        return ""
+    size = " by ".join(str(-(-length // step)) for length in shape[1::-1])
+    every = {2: "second", 3: "third", 4: "fourth"}.get(step, f"{step}th")
+    return f" Maps are drawn from a reduced raster of {size} pixels, every {every} row and column; shares and counts are of all pixels."
+
+
 def any_thinned(flags: np.ndarray) -> np.ndarray:
     """The same of flags, such that none that is set is left out."""
     step = step_of(flags.shape)

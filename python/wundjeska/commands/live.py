@@ -18,7 +18,7 @@ import numpy as np
 from ..displacements import read_grid
 from ..outputs import Outputs, is_same, keep
 from ..pages import COMMON, head_of, scaled
-from ..pictures import BRIGHTER, ROUND, Bar, coloured, map_of, pixel_axes, text, thinned
+from ..pictures import BRIGHTER, ROUND, Bar, coloured, map_of, pixel_axes, text, thinned, thinned_words
 from ..planes import CYCLE, Session, read_session
 from ..program import MAX_WORKERS, Problem, run_program, workers_or_default
 from ..report_reader import NODATA
@@ -100,7 +100,7 @@ def body_of(session: Session, watched: Watched, grid: Optional[np.ndarray]) -> s
     return (
         f"<h2>Published</h2><p>{count} surface{'s' if count != 1 else ''}{last}. A reader sees what is newest when it looks, so it "
         f"may miss some, but never the last.</p>{chart(watched)}"
-        f'<h2>Phase and surface</h2><div class="row">{phase_map(session)}{surface}</div>'
+        f'<h2>Phase and surface</h2>{thinned_words(session.phase.shape)}<div class="row">{phase_map(session)}{surface}</div>'
     )
 
 

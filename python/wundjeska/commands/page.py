@@ -49,6 +49,7 @@ from ..pictures import (
     pixel_axes,
     profile_of,
     thinned,
+    thinned_words,
 )
 from ..parts import Bounds, Parts, add_margin_word, certified_of, margin_for, parts_or_none
 from ..planes import CYCLE, Ramp, Session, read_session
@@ -214,6 +215,7 @@ def first_section(picture: Picture) -> str:
         words += f" {sign_words(picture)}"
     if picture.report.ramp != (0, 0):
         words += f" Differences of neighbours are taken to lie within half a cycle of the expected {told(picture.report.ramp)}."
+    words += thinned_words(picture.session.phase.shape)
     hint = f'<p class="hint">{HINT}</p>'
     return f'<h2>Phase and surface</h2><p>{words}</p>{hint}<div class="row">{phase_map(picture)}{last}</div>'
 

@@ -1,5 +1,6 @@
 """Tests of arrays as callers hand them over, and of inputs that are no phases, or are named in other ways."""
 import math
+import resource
 import unittest
 import warnings
 from pathlib import Path
@@ -10,6 +11,7 @@ from helpers import InFolder, command, raster
 from osgeo import gdal
 
 import wundjeska
+from wundjeska.rasters import Band, open_raster
 from wundjeska.trouble import Trouble
 
 RAMP = 0.4 * np.arange(40)[None, :] + 0.3 * np.arange(30)[:, None]
@@ -242,6 +244,15 @@ class OtherNames(InFolder):
         wanted = self.wanted()
         np.testing.assert_allclose(found[:, :20], wanted[:, :20], atol=2e-5)
         self.assertIn("is an input", command("to_session.py", phase, "--coherence", coherence, coherence)[1])
+
+    def test_an_array_is_read_by_windows(self) -> None:
+        """Of an array of 4 GB, nearly all of them a hole in its file, no more is held than what is read."""
+        held, path = resource.getrusage(resource.RUSAGE_SELF).ru_maxrss, str(self.folder / "large.npy")
+        large = np.lib.format.open_memmap(path, "w+", np.complex64, (20000, 25000))  # type: ignore[no-untyped-call]
+        large[15003, 24007] = 1j
+        values, there = Band(open_raster(path)).read((24000, 15000, 30, 20))
+        self.assertEqual((np.argwhere(there).tolist(), values[3, 7]), ([[3, 7]], 1j))
+        self.assertLess(resource.getrusage(resource.RUSAGE_SELF).ru_maxrss - held, 10**6)
 
     def test_arrays_that_are_none(self) -> None:
         path = self.folder / "phase.npy"

@@ -16,7 +16,7 @@ from .planes import CYCLE, MAX_PIXELS, MAX_SIDE, TURN, Ramp
 Window = Tuple[int, int, int, int]  # column, row, width, height
 Planes = Tuple[np.ndarray, np.ndarray, np.ndarray]  # phases, weights and open pixels
 LEAST_OPEN = 0.25  # of the pixels of a block that is open
-ROWS = 256  # of blocks that are read at once
+AT_ONCE = 1 << 21  # pixels that are read at once, or a row of blocks
 
 
 class Reader(Protocol):
@@ -56,8 +56,9 @@ def multilooked(scene: Reader, size: Tuple[int, int], block: int, ramp: Optional
 def strips_of(scene: Reader, size: Tuple[int, int], block: int, ramp: Optional[Ramp]) -> Iterator[Planes]:
     """The planes of the raster from the top, some rows of blocks at once."""
     width, height = size
-    for row in range(0, height, block * ROWS):
-        window = (0, row, width, min(block * ROWS, height - row))
+    rows = block * max(1, AT_ONCE // (width * block))
+    for row in range(0, height, rows):
+        window = (0, row, width, min(rows, height - row))
         phase, weights, opened = scene.read(window)
         yield (phase - ramp_at(window, ramp)) % CYCLE, weights, opened
 

@@ -99,9 +99,9 @@ def check_bands(raster: gdal.Dataset, path: str) -> None:
 
 
 def open_array(path: str) -> gdal.Dataset:
-    """The array in a .npy file."""
+    """The array in a .npy file, of which no more is held than what is read, if GDAL has its kind of numbers."""
     try:
-        values = np.load(path, allow_pickle=False)
+        values = np.load(path, mmap_mode="r", allow_pickle=False)
     except FileNotFoundError as error:
         raise Trouble(f"{path}: {error.strerror}", FILE_FAULT) from error
     except (OSError, ValueError, EOFError) as error:

@@ -27,6 +27,7 @@ gdal.UseExceptions()
 
 NODATA = -9999.0  # of the rasters written
 MASK_FLAGS = gdal.GMF_PER_DATASET | gdal.GMF_ALPHA
+CACHE = 1 << 27  # bytes that GDAL keeps of rasters which are read and written by windows
 Window = Tuple[int, int, int, int]
 Bands = Union[int, Tuple[int, int]]  # that of a phase, or of the parts of complex numbers
 
@@ -123,6 +124,12 @@ def check_alike(first: gdal.Dataset, other: gdal.Dataset) -> None:
 
 
 # Reading
+
+
+def limit_cache() -> None:
+    """Has GDAL keep less of what was read and written than its default, which grows with the machine; GDAL_CACHEMAX says otherwise."""
+    if "GDAL_CACHEMAX" not in os.environ:
+        gdal.SetCacheMax(min(CACHE, gdal.GetCacheMax()))
 
 
 @dataclass

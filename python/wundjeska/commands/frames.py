@@ -43,7 +43,19 @@ from ..outputs import Outputs, add_force_word, keep, raster_beside
 from ..planes import CYCLE, MAX_PIXELS, Ramp, ramp_in, session_of
 from ..product import add_unit_words, check_unit_words, create_numbers, in_unit, kind_of, nodata_of, undecided_notes, unit_notes
 from ..ramps import AUTO, RampWord, Spectrum, add_ramp_words, found_in, told
-from ..rasters import Scene, Window, add_scene_words, close, create_like, name_of, put_array, put_values, scene_of, size_of
+from ..rasters import (
+    Scene,
+    Window,
+    add_scene_words,
+    close,
+    create_like,
+    limit_cache,
+    name_of,
+    put_array,
+    put_values,
+    scene_of,
+    size_of,
+)
 from ..references import add_reference_words, check_box, mean_of, reference_of
 from ..report_reader import NODATA
 from ..trouble import DISAGREES, REFUSED_WORDS, Trouble
@@ -585,6 +597,7 @@ def write_all(joint: Joint, asked: Namespace, made: Path, doubted: Optional[Path
 def main(asked: Namespace) -> int:
     check_words(asked)
     settings, chain = settings_of(asked, asked.whole), chain_of(asked, undecided=asked.undecided)
+    limit_cache()
     scene = scene_of(asked)
     size = size_of(scene.phase.raster)
     check_box(reference_of(asked).box, *size)

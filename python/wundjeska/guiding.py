@@ -20,6 +20,7 @@ from .arguments import refused
 from .filtering import MAX_THREADS, SIDE, filtered
 from .nearest import how_made, nearest, rest_of, with_narrow
 from .planes import CYCLE, MAX_WEIGHT, Session, comments_of, read_session, session_of, with_comments
+from .progress import stage
 from .report_reader import Surface
 from .trouble import DISAGREES, REFUSED_WORDS, Trouble
 from .undecided import Apart, parts_apart
@@ -140,6 +141,7 @@ class Guided(Generic[Solution]):
 def filtered_session(session: bytes, has_coherence: bool, threads: int = MAX_THREADS) -> bytes:
     """The session of the filtered phase, with the script and the comments of the session. Its weights are made of those of the
     session, if these are made of coherence."""
+    stage("filtering")
     planes = read_session(session)
     found = filtered(planes.phase, planes.opened, planes.weights if has_coherence else None, threads)
     text = session_of(found.phase, found.weights, planes.opened, planes.script, highest_in(planes))

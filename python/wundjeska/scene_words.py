@@ -33,7 +33,7 @@ OWN = {
 }
 # Of the words of unwrap those that each scene has its own of, or that the workflow sets.
 NOT_KEYS = {"help", "coherence", "mask", "components", "page", "session", "report", "unscreened", "no_check", "workers"}
-NOT_KEYS |= {"undecided", "unfiltered", "parts", "mask_components"}
+NOT_KEYS |= {"quiet", "undecided", "unfiltered", "parts", "mask_components"}
 WANT_COHERENCE = ("least_coherence", "coherence_band", "coherence_max", "coherence_form", "looks", "screen")
 
 

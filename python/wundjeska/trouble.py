@@ -7,6 +7,8 @@ import warnings
 from types import FrameType
 from typing import Any, Callable, NoReturn, Optional, Type
 
+from .progress import say
+
 # Statuses. Those of the program are passed on; 2 is for words that are refused.
 DISAGREES, REFUSED_WORDS, BROKEN_INPUT, NO_MEMORY, FILE_FAULT, INTERRUPTED = 1, 2, 3, 4, 5, 130
 
@@ -56,7 +58,7 @@ def write_cautions() -> None:
 
 def tell(line: object) -> None:
     """Writes a line on standard error."""
-    print(" ".join(str(line).split()), file=sys.stderr, flush=True)
+    say(" ".join(str(line).split()), sys.stderr)
 
 
 def status_of(main: Callable[[], int]) -> int:

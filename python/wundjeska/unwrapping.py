@@ -31,6 +31,7 @@ from .planes import (
     session_of,
 )
 from .program import MAX_WORKERS, Problem, check_report, run_program, workers_or_default
+from .progress import stage
 from .ramps import Given, RampWord, checked, ramp_for
 from .screening import Screen, Screened, screened, screened_by
 from .trouble import DISAGREES, REFUSED_WORDS, Trouble, warn
@@ -269,9 +270,11 @@ def solve(session: bytes, settings: Settings, check: bool = True, name: str = "t
     settings.check()
     problem = settings.problem(ramp_in(session))
     workers = str(workers_or_default(settings.workers))
+    stage("solving")
     report = run_program([problem.solver, *problem.words(), "--workers", workers], session, name)
     verdict = NOT_CHECKED
     if check:
+        stage("checking")
         accepted, verdict = check_report(session, report, problem)
         if not accepted:
             raise Trouble(f"{name}: {verdict}", DISAGREES)

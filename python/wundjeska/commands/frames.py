@@ -23,6 +23,7 @@ agree then, that is what is written. --model N has a model of blocks of N by N p
 """
 import hashlib
 import io
+import sys
 import threading
 from argparse import ArgumentParser, Namespace, RawDescriptionHelpFormatter
 from concurrent.futures import ThreadPoolExecutor
@@ -39,9 +40,11 @@ from ..coarse import Model, block_for, blocks_in, fits, model_of, multilooked
 from ..components import pieces_of
 from ..guiding import Chain, add_filter_words, add_narrow_word, by_guide, filtered_session
 from ..joining import Link, Offsets, links_of, offsets_of
+from ..needs import needs_of, tell_needs
 from ..outputs import Outputs, add_force_word, keep, raster_beside
 from ..planes import CYCLE, MAX_PIXELS, Ramp, ramp_in, session_of
 from ..product import add_unit_words, check_unit_words, create_numbers, in_unit, kind_of, nodata_of, undecided_notes, unit_notes
+from ..progress import add_quiet_word, advance, say, shown
 from ..ramps import AUTO, RampWord, Spectrum, add_ramp_words, found_in, told
 from ..rasters import (
     Scene,
@@ -277,12 +280,14 @@ def cost_words(solved: Solved, settings: Settings) -> str:
     return f"{found}, of its guide, {count_of(solved.undecided)}" if solved.undecided else found
 
 
-def do_frames(frames: List[Frame], job: Job, jobs: int) -> None:
+def do_frames(frames: List[Frame], job: Job, jobs: int, quiet: bool) -> None:
     """Does all frames, some at once, and tells each when it is done."""
     pool = ThreadPoolExecutor(jobs)
     try:
-        for line in pool.map(lambda frame: do_frame(frame, job), frames):
-            print(line, flush=True)
+        with shown(len(frames), quiet, has_stages=False):
+            for line in pool.map(lambda frame: do_frame(frame, job), frames):
+                advance()
+                say(line, sys.stdout)
     except KeyboardInterrupt:
         program.stop()
         raise
@@ -533,6 +538,7 @@ def words() -> ArgumentParser:
     add_reference_words(found, auto=False)
     add_unit_words(found, blocks=False)
     add_force_word(found)
+    add_quiet_word(found)
     found.add_argument("geotiff", help="the file to write")
     return found
 
@@ -562,7 +568,7 @@ class Joint:
 
 def joint_of(frames: List[Frame], job: Job, asked: Namespace) -> Joint:
     """Does all frames, joins them, and tells how they agree."""
-    do_frames(frames, job, asked.jobs)
+    do_frames(frames, job, asked.jobs, asked.quiet)
     pieces = pieces_in(frames)
     if not pieces:
         raise Trouble(f"{name_of(job.scene.phase.raster)} has no pixel that is open")
@@ -594,6 +600,14 @@ def write_all(joint: Joint, asked: Namespace, made: Path, doubted: Optional[Path
         write_undecided(doubted, joint.frames, job.scene)
 
 
+def tell_what_it_needs(asked: Namespace, frames: List[Frame], chain: Chain) -> None:
+    """Says what the frames need, of which --jobs are done at once."""
+    sizes = sorted((frame.window[2] * frame.window[3] for frame in frames), reverse=True)
+    needs = needs_of(sum(sizes), sum(sizes[: asked.jobs]), chain.filter is not None)
+    remedy = "--jobs 1 or a lower --side takes less"
+    tell_needs(asked.phase, sum(sizes), needs, asked.quiet, remedy)
+
+
 def main(asked: Namespace) -> int:
     check_words(asked)
     settings, chain = settings_of(asked, asked.whole), chain_of(asked, undecided=asked.undecided)
@@ -604,6 +618,7 @@ def main(asked: Namespace) -> int:
     frames = frames_of(size, asked.side, asked.overlap, asked.folder)
     with Outputs(scene.files(), asked.force) as outputs:
         made, doubted = outputs.raster(asked.geotiff), raster_beside(outputs, asked.undecided)
+        tell_what_it_needs(asked, frames, chain)
         asked.folder.mkdir(parents=True, exist_ok=True)
         ramp = ramp_of(scene, asked.ramp)
         if ramp is not None:

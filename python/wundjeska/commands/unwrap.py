@@ -21,7 +21,7 @@ from argparse import ArgumentParser, BooleanOptionalAction, Namespace, RawDescri
 from dataclasses import dataclass
 from functools import partial
 from pathlib import Path
-from typing import Any, Dict, List, Optional, Sequence
+from typing import Any, Dict, List, Optional, Sequence, Tuple
 
 import numpy as np
 
@@ -29,9 +29,10 @@ from .. import report_reader
 from ..components import components_of
 from ..concerns import Concern, Signs, judgement_of, note_of, percent, signs_of
 from ..guiding import FOURIER, Chain, add_filter_words, add_narrow_word, add_unfiltered_word
+from ..needs import needs_of, tell_needs
 from ..outputs import Outputs, add_force_word, beside, raster_beside
 from ..parts import LEAST, Bounds, Certified, Parts, add_margin_word, bounds_for, check_command, parts_or_none
-from ..planes import Ramp, read_session
+from ..planes import MAX_PIXELS, Ramp, read_session
 from ..product import (
     NOTHING_CERTIFIES,
     add_unit_words,
@@ -42,9 +43,10 @@ from ..product import (
     write_undecided,
 )
 from ..program import show
+from ..progress import add_quiet_word, shown, stage
 from ..ramps import add_ramp_words
 from ..ramps import told as ramp_told
-from ..rasters import Scene, add_scene_words, axes_of, scene_of
+from ..rasters import Scene, add_scene_words, axes_of, scene_of, size_of
 from ..references import Reference, add_reference_words, reference_of
 from ..screening import add_screen_words, check_screen_words
 from ..trouble import REFUSED_WORDS, Trouble, warn
@@ -144,6 +146,7 @@ def words() -> ArgumentParser:
         "--no-check", action="store_true", help="do not have the report checked, and say so in the GeoTIFF"
     )
     add_force_word(found)
+    add_quiet_word(found)
     found.add_argument("geotiff", help="the file to write")
     return found
 
@@ -250,6 +253,24 @@ def check_words(asked: Namespace) -> None:
         raise Trouble("--reference auto wants --coherence", REFUSED_WORDS)
 
 
+def stages_of(asked: Namespace, settings: Settings, chain: Chain) -> int:
+    """How many stages are shown: what is read and written, solved and checked. The surface without a filter is not checked."""
+    solved, guided = 1 + chain.narrow, 2 if chain.filter else 0  # the filter, and the surface without
+    parts = wants_parts(asked) and settings.is_whole
+    return 2 + guided + (solved if asked.no_check else 2 * solved) + parts + (asked.page is not None)
+
+
+def tell_what_it_needs(asked: Namespace, scene: Scene, chain: Chain) -> None:
+    """Says what the raster needs, unless it is refused for its size."""
+    width, height = size_of(scene.phase.raster)
+    if width * height > MAX_PIXELS:
+        return
+    is_filtered = chain.filter is not None
+    remedy = "`wundjeska frames --side 1024 --jobs 1` takes less" + (", as does --no-filter" if is_filtered else "")
+    needs = needs_of(width * height, width * height, is_filtered, asked.page is not None)
+    tell_needs(asked.phase, width * height, needs, asked.quiet, remedy)
+
+
 def main(asked: Namespace) -> int:
     check_words(asked)
     settings = settings_of(asked, asked.whole)
@@ -264,19 +285,36 @@ def main(asked: Namespace) -> int:
         places = places_for(asked, outputs)
         names = (asked.page, asked.session, asked.report, asked.unscreened, asked.unfiltered)
         page, *kept = (beside(outputs, name) for name in names)
-        made = input_for(scene, asked)
-        solved = solve_by(chain, made, settings, not asked.no_check, asked.phase)
-        parts = certain_parts(asked, bounds, solved.certified(made.session, settings.problem(made.ramp)))
-        told = write_surface(asked, place, scene, settings, chain, made, solved, parts)
-        write_labels(places, scene, made, solved, bounds, parts)
-        if page:
-            outputs.fill(page, page_of(asked, made, solved, scene, told))
-        session = solved.guided.session if solved.guided else made.session
-        for path, text in zip(kept, (session, solved.report, made.before, made.session)):
-            if path:
-                outputs.fill(path, text)
+        tell_what_it_needs(asked, scene, chain)
+        with shown(stages_of(asked, settings, chain), asked.quiet):
+            made, solved, parts = solved_scene(asked, scene, settings, chain, bounds)
+            stage("writing")
+            told = write_surface(asked, place, scene, settings, chain, made, solved, parts)
+            write_labels(places, scene, made, solved, bounds, parts)
+            fill(outputs, kept, made, solved)
+            if page:
+                stage("drawing the page")
+                outputs.fill(page, page_of(asked, made, solved, scene, told))
     tell(asked, settings, solved, made, told)
     return 0
+
+
+def fill(outputs: Outputs, kept: List[Optional[Path]], made: Input, solved: Solved) -> None:
+    """Writes the session, the report and the sessions before a screen and a filter, where they are asked for."""
+    session = solved.guided.session if solved.guided else made.session
+    for path, text in zip(kept, (session, solved.report, made.before, made.session)):
+        if path:
+            outputs.fill(path, text)
+
+
+def solved_scene(
+    asked: Namespace, scene: Scene, settings: Settings, chain: Chain, bounds: Bounds
+) -> Tuple[Input, Solved, Optional[Parts]]:
+    """What a scene is made into, its surface, and its certain parts."""
+    stage("reading")
+    made = input_for(scene, asked)
+    solved = solve_by(chain, made, settings, not asked.no_check, asked.phase)
+    return made, solved, certain_parts(asked, bounds, solved.certified(made.session, settings.problem(made.ramp)))
 
 
 def write_surface(
@@ -316,10 +354,16 @@ def places_for(asked: Namespace, outputs: Outputs) -> Places:
     return Places(*(raster_beside(outputs, name) for name in names))
 
 
+def wants_parts(asked: Namespace) -> bool:
+    """Whether certain parts are asked for or shown."""
+    return bool(asked.parts or asked.components or asked.page)
+
+
 def certain_parts(asked: Namespace, bounds: Bounds, certified: Optional[Certified]) -> Optional[Parts]:
     """The certain parts, if they are asked for or shown, and if there are any to be had."""
-    if certified is None or not (asked.parts or asked.components or asked.page):
+    if certified is None or not wants_parts(asked):
         return None
+    stage("finding certain parts")
     find = partial(certified.parts, bounds, asked.phase)
     return find() if asked.parts else parts_or_none(find)
 

@@ -1,5 +1,6 @@
 """Tests what `frames` keeps: it goes on where it stopped, and what was changed in its folder since is made anew. And what it tells
 to be undecided, and how it looks for narrow features."""
+import re
 import sys
 import unittest
 import warnings
@@ -11,7 +12,10 @@ from helpers import HERE, TOP, InFolder, command, raster
 from osgeo import gdal
 
 import wundjeska
+from wundjeska.commands.frames import frames_of
+from wundjeska.pictures import any_thinned
 from wundjeska.planes import CYCLE, phases_of
+from wundjeska.reduced import Flags, Reduced
 
 sys.path.append(str(TOP / "recipes/kit"))
 from truth import scene_of, shares  # type: ignore[import]  # noqa: E402
@@ -142,6 +146,51 @@ class Undecided(InFolder):
             status, told = command("frames.py", *KIT, *folder, word, self.folder / "joined.tif")
             self.assertEqual(status, 2)
             self.assertIn(line, told)
+
+
+class Pages(InFolder):
+    def test_what_is_taken_up_by_windows_is_as_maps_thin_it(self) -> None:
+        """By frames whose corners are no multiples of the step, 3."""
+        values = np.random.default_rng(5).normal(size=(700, 2100)).astype(np.float32)
+        values[values > 2] = np.nan
+        surface = Reduced((2100, 700))
+        flags = Flags(surface)
+        for frame in frames_of((2100, 700), 512, 100, self.folder):
+            x, y, width, height = frame.core
+            part = values[y : y + height, x : x + width]
+            surface.add(frame.core, part)
+            flags.add(frame.core, part > 1.9)
+        np.testing.assert_array_equal(surface.values, values[::3, ::3])
+        np.testing.assert_array_equal(flags.flags, any_thinned(values > 1.9))
+        known = values[~np.isnan(values)]
+        self.assertEqual((surface.count, surface.low, surface.high), (len(known), known.min(), known.max()))
+
+    def page(self, *words: object) -> str:
+        page = self.folder / "page.html"
+        status, told = command("frames.py", *words, "--folder", self.folder / "frames", "--page", page, self.folder / "o.tif")
+        self.assertEqual(status, 0, told)
+        return page.read_text()
+
+    def test_of_a_large_raster(self) -> None:
+        """A slope of 0.3 radians a pixel, and a masked pixel that maps leave out."""
+        slope = 0.3 * np.arange(1300) + np.zeros((90, 1))
+        slope[31, 701] = np.nan
+        phase = raster(self.folder / "phase.tif", np.angle(np.exp(1j * slope)))
+        page = self.page(phase, "--side", 500, "--overlap", 50, "--no-filter")
+        self.assertIn("1300 by 90 pixels, joined of 3 frames", page)
+        self.assertIn("drawn from a reduced raster of 650 by 45 pixels", page)
+        self.assertIn(f"116999 pixels have a value, from 0.000 to {0.3 * 1299 / (2 * np.pi):.3f} cycles", page)
+        self.assertEqual(re.findall(r"<li>frame-0-([01]) and frame-0-[12]: [0-9]+ of [0-9]+ pixels agree", page), ["0", "1"])
+        self.assertIn("The joint of the frames is not covered by any certificate or proof", page)
+        self.assertEqual(page.count('class="map"'), 1)
+        self.assertIn("overlaps: all agree at 95 %", page)
+
+    def test_what_is_undecided_and_the_reference_are_drawn(self) -> None:
+        page = self.page(*KIT, *SIZES, "--reference", 100, 20)
+        self.assertEqual(page.count('class="map"'), 2)
+        self.assertIn("Where no filter makes other cycles", page)
+        self.assertIn("<title>reference: pixel", page)
+        self.assertNotIn("reduced raster", page)
 
 
 if __name__ == "__main__":

@@ -16,6 +16,7 @@ Rasters are read and written by windows. --folder keeps the session, the report 
 What is there is not done again, so a run that was cut off goes on where it stopped; what was changed there since is.
 
 --undecided writes what is undecided in each frame, up to the middle of the overlaps; a part that runs over several has a number in each.
+--page writes a page of the raster, its maps reduced to 1,024 pixels a side.
 
 If overlaps do not agree, as where a fault cuts them, frames are done once more with a model: the raster is multilooked to blocks, few
 enough to be solved at once, and what that surface says of each pixel is taken off the phase, and added again at the end. If all overlaps
@@ -38,10 +39,12 @@ from .. import program
 from ..build_info import with_proofs
 from ..coarse import Model, block_for, blocks_in, fits, model_of, multilooked
 from ..components import pieces_of
+from ..frames_page import Shown, page_of
 from ..guiding import Chain, add_filter_words, add_narrow_word, by_guide, filtered_session
 from ..joining import Link, Offsets, links_of, offsets_of
 from ..needs import needs_of, tell_needs
-from ..outputs import Outputs, add_force_word, keep, raster_beside
+from ..outputs import Outputs, add_force_word, beside, keep, raster_beside
+from ..pictures import pixel_axes
 from ..planes import CYCLE, MAX_PIXELS, Ramp, ramp_in, session_of
 from ..product import add_unit_words, check_unit_words, create_numbers, in_unit, kind_of, nodata_of, undecided_notes, unit_notes
 from ..progress import add_quiet_word, advance, say, shown
@@ -50,6 +53,7 @@ from ..rasters import (
     Scene,
     Window,
     add_scene_words,
+    axes_of,
     close,
     create_like,
     limit_cache,
@@ -59,6 +63,7 @@ from ..rasters import (
     scene_of,
     size_of,
 )
+from ..reduced import Flags, Reduced
 from ..references import add_reference_words, check_box, mean_of, reference_of
 from ..report_reader import NODATA
 from ..trouble import DISAGREES, REFUSED_WORDS, Trouble
@@ -382,8 +387,8 @@ def not_proved(job: Job) -> str:
     return NOT_PROVED.format("guide" if job.chain.filter else "surface", LESS_MODEL if job.model else "")
 
 
-def tell(overlaps: List[List[Link]], frames: List[Frame], offsets: Offsets, agree: float, job: Job) -> bool:
-    """Tells how the overlaps agree; whether all do. What is judged are the pixels of an overlap, not each of its pieces."""
+def told_of(overlaps: List[List[Link]], frames: List[Frame], offsets: Offsets, agree: float) -> Tuple[List[str], bool]:
+    """Lines on how the overlaps agree, and whether all do. What is judged are the pixels of an overlap, not each of its pieces."""
     apart = [links for links in overlaps if share_of(links, offsets) < agree]
     off = [link for links in overlaps for link in links if link.share(offsets.cycles(link)) < agree]
     off.sort(key=lambda link: -link.pixels())
@@ -397,8 +402,7 @@ def tell(overlaps: List[List[Link]], frames: List[Frame], offsets: Offsets, agre
         lines.append(f"  and {len(off) - MAX_LINES} more")
     if offsets.sets() > 1:
         lines.append(f"{offsets.sets()} parts of the raster do not touch; whole cycles between them are arbitrary")
-    print("\n".join([*lines, not_proved(job)]))
-    return not apart
+    return lines, not apart
 
 
 def solved_note(settings: Settings) -> Dict[str, Any]:
@@ -459,14 +463,18 @@ def level_in(
 
 def write(
     path: Path, frames: List[Frame], offsets: Offsets, job: Job, asked: Namespace, notes: Dict[str, Any]
-) -> None:
-    """Writes the raster, frame by frame."""
+) -> Reduced:
+    """Writes the raster, frame by frame; what a page shows of it."""
     model, scene = job.model, job.scene
+    shown_of_it = Reduced(size_of(scene.phase.raster))
     level = level_in(frames, offsets, model, reference_of(asked).box)
     made = create_like(path, scene.phase.raster, kind_of(asked), nodata_of(asked), asked.unit, notes)
     for core, values in parts_of(frames, offsets, model):
-        put_values(made, in_unit(values, level, asked), *core[:2])
+        found = in_unit(values, level, asked)
+        put_values(made, found, *core[:2])
+        shown_of_it.add(core, found)
     close(made, path)
+    return shown_of_it
 
 
 Doubted = Tuple[Window, np.ndarray, List[float]]  # the core of a frame, the numbers of its undecided parts, and f of each
@@ -537,6 +545,7 @@ def words() -> ArgumentParser:
     add_whole_word(found, "each frame")
     add_reference_words(found, auto=False)
     add_unit_words(found, blocks=False)
+    found.add_argument("--page", metavar="FILE", help="write a page to look at, an HTML file; its maps are reduced")
     add_force_word(found)
     add_quiet_word(found)
     found.add_argument("geotiff", help="the file to write")
@@ -556,14 +565,24 @@ def check_words(asked: Namespace) -> None:
         raise Trouble("--agree is from 0 to 1", REFUSED_WORDS)
 
 
+@dataclass(frozen=True)
+class Places:
+    """Where what comes of it is written; None where it is not asked for."""
+
+    surface: Path
+    undecided: Optional[Path]
+    page: Optional[Path]
+
+
 @dataclass
 class Joint:
-    """Frames that were joined, and whether all overlaps agree."""
+    """Frames that were joined, whether all overlaps agree, and lines on how they do."""
 
     frames: List[Frame]
     job: Job
     offsets: Offsets
     agreed: bool
+    lines: List[str]
 
 
 def joint_of(frames: List[Frame], job: Job, asked: Namespace) -> Joint:
@@ -574,7 +593,9 @@ def joint_of(frames: List[Frame], job: Job, asked: Namespace) -> Joint:
         raise Trouble(f"{name_of(job.scene.phase.raster)} has no pixel that is open")
     overlaps = list(all_links(frames))
     offsets = offsets_of(pieces, [link for links in overlaps for link in links])
-    return Joint(frames, job, offsets, tell(overlaps, frames, offsets, asked.agree, job))
+    lines, agreed = told_of(overlaps, frames, offsets, asked.agree)
+    print("\n".join([*lines, not_proved(job)]), flush=True)
+    return Joint(frames, job, offsets, agreed, lines)
 
 
 def best_joint(frames: List[Frame], job: Job, size: Tuple[int, int], asked: Namespace) -> Joint:
@@ -591,13 +612,42 @@ def best_joint(frames: List[Frame], job: Job, size: Tuple[int, int], asked: Name
     return other if other.agreed else found
 
 
-def write_all(joint: Joint, asked: Namespace, made: Path, doubted: Optional[Path]) -> None:
-    """Writes what was joined, and what is undecided."""
+def page_text(joint: Joint, asked: Namespace, surface: Reduced, notes: Dict[str, Any]) -> str:
+    """The page of what was joined."""
+    job, reference, flags = joint.job, reference_of(asked), None
+    if job.chain.filter:
+        flags = Flags(surface)
+        for core, numbers, _ in undecided_in(joint.frames):
+            flags.add(core, numbers > 0)
+    rows, columns = surface.shape
+    shown = Shown(
+        title=Path(asked.geotiff).name,
+        head=f"{columns} by {rows} pixels, joined of {len(joint.frames)} frames. Filter: {notes['FILTER']}",
+        verdict=f"{notes['VERDICT']}; overlaps: {notes['OVERLAPS']}",
+        agreed=joint.agreed,
+        not_proved=notes["JOINT"],
+        surface=surface,
+        unit=asked.unit,
+        axes=replace(axes_of(job.scene.phase.raster) or pixel_axes(surface.shape), shape=surface.shape),
+        reference=reference.note,
+        box=reference.box,
+        undecided=flags,
+        undecided_told=notes.get("UNDECIDED", ""),
+        lines=joint.lines,
+        files=[("phase", asked.phase), ("coherence", asked.coherence or ""), ("mask", asked.mask or "")],
+    )
+    return page_of(shown)
+
+
+def write_all(joint: Joint, asked: Namespace, outputs: Outputs, places: Places) -> None:
+    """Writes what was joined, what is undecided, and a page."""
     job = joint.job
-    notes = notes_of(asked, job, joint.frames, joint.agreed)
-    write(made, joint.frames, joint.offsets, job, asked, {**notes, **ramp_note(job.ramp)})
-    if doubted:
-        write_undecided(doubted, joint.frames, job.scene)
+    notes = {**notes_of(asked, job, joint.frames, joint.agreed), **ramp_note(job.ramp)}
+    surface = write(places.surface, joint.frames, joint.offsets, job, asked, notes)
+    if places.undecided:
+        write_undecided(places.undecided, joint.frames, job.scene)
+    if places.page:
+        outputs.fill(places.page, page_text(joint, asked, surface, notes).encode())
 
 
 def tell_what_it_needs(asked: Namespace, frames: List[Frame], chain: Chain) -> None:
@@ -617,12 +667,12 @@ def main(asked: Namespace) -> int:
     check_box(reference_of(asked).box, *size)
     frames = frames_of(size, asked.side, asked.overlap, asked.folder)
     with Outputs(scene.files(), asked.force) as outputs:
-        made, doubted = outputs.raster(asked.geotiff), raster_beside(outputs, asked.undecided)
+        places = Places(outputs.raster(asked.geotiff), raster_beside(outputs, asked.undecided), beside(outputs, asked.page))
         tell_what_it_needs(asked, frames, chain)
         asked.folder.mkdir(parents=True, exist_ok=True)
         ramp = ramp_of(scene, asked.ramp)
         if ramp is not None:
             print(told(ramp), flush=True)
         joint = best_joint(frames, Job(scene, settings, threading.Lock(), ramp, chain), size, asked)
-        write_all(joint, asked, made, doubted)
+        write_all(joint, asked, outputs, places)
     return 0 if joint.agreed else DISAGREES

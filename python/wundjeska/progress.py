@@ -16,8 +16,8 @@ class Shown:
     def begin(self, what: str) -> None:
         """Something begins."""
 
-    def advance(self) -> None:
-        """A stage is done."""
+    def advance(self, count: int = 1) -> None:
+        """So many stages are done."""
 
     def say(self, line: str, file: TextIO) -> None:
         """Writes a line, above what is shown."""
@@ -36,8 +36,8 @@ class Lines(Shown):
     def begin(self, what: str) -> None:
         print(f"{self.done + 1}/{self.total} {what}", file=sys.stderr, flush=True)
 
-    def advance(self) -> None:
-        self.done += 1
+    def advance(self, count: int = 1) -> None:
+        self.done += count
 
 
 class TqdmBar(Shown):
@@ -49,8 +49,8 @@ class TqdmBar(Shown):
     def begin(self, what: str) -> None:
         self.bar.set_description_str(what)
 
-    def advance(self) -> None:
-        self.bar.update()
+    def advance(self, count: int = 1) -> None:
+        self.bar.update(count)
 
     def say(self, line: str, file: TextIO) -> None:
         self.bar.clear()
@@ -71,8 +71,8 @@ class RichBar(Shown):
     def begin(self, what: str) -> None:
         self.bar.update(self.task, description=what)
 
-    def advance(self) -> None:
-        self.bar.advance(self.task)
+    def advance(self, count: int = 1) -> None:
+        self.bar.advance(self.task, count)
 
     def say(self, line: str, file: TextIO) -> None:
         self.bar.stop()
@@ -137,9 +137,9 @@ def stage(what: str) -> None:
     Watched.by.begin(what)
 
 
-def advance() -> None:
-    """Says that one more part is done."""
-    Watched.by.advance()
+def advance(count: int = 1) -> None:
+    """Says that so many more parts are done."""
+    Watched.by.advance(count)
 
 
 def say(line: str, file: TextIO) -> None:

@@ -35,12 +35,7 @@ pub fn board(alloc: Global, text: &str, side: u32) -> Result<Board, SessionFault
 }
 
 /// The same on these terms.
-pub fn board_on(
-    alloc: Global,
-    terms: Terms,
-    text: &str,
-    side: u32,
-) -> Result<Board, SessionFault>
+pub fn board_on(alloc: Global, terms: Terms, text: &str, side: u32) -> Result<Board, SessionFault>
     requires { (MIN_TILE_SIDE ≤ side) × (side ≤ MAX_TILE_SIDE) }
     ensures { IfOk result (λ board. board.entries ≡ []) }
 {

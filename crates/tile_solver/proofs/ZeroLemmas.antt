@@ -115,7 +115,7 @@ module _ (s : Scene) (t : ℕ) (mask : Field Bool) (g : GradientsView) (without 
   pub zeros_answer : AreCertifiedCorrections (raster_of s) mask t g.window k faces
   zeros_answer = record {
     shape = zeros.shape;
-    cancel = zeros_cancel s g k without.differences without.none zeros.corrections;
+    cancel = zeros_cancel (raster_of s) g k without.differences without.none zeros.corrections;
     small = omega (arith, zeros_greatest k zeros.corrections);
     count = zeros.count ∙ sym (cell_count-is (raster_of s) t g.window (scene_window s t g.window window));
     fits = λ e i. faces_fit e;

@@ -13,7 +13,7 @@ use Rattle.dual_grid.specs.Answers.{AreCertifiedCorrections}
 pub record IsWithoutResidue (scene : Scene) (t : ℕ) (gradients : GradientsView) : Type 0 where
   pub tile : t < tiles_of scene.tiling
   pub window : gradients.window ≡ window_of scene.tiling t
-  pub differences : AreGradientsOf scene gradients
+  pub differences : AreGradientsOf (raster_of scene) gradients
   pub none : HasNoResidue gradients
 
 -- corrections and faces that are an answer, under any mask, for each tile without a residue of which these are the gradients

@@ -76,7 +76,7 @@ fn least_corrections(
     guess: Option<Guess>,
 ) -> Result<(Corrections, Vec<i64>), AllocError>
     requires tile { tile < tiles_of scene.now.tiling }
-    requires gradients { AreGradientsOf scene.now gradients.now }
+    requires gradients { AreGradientsOf (raster_of scene.now) gradients.now }
     requires window { gradients.now.window ≡ window_of scene.now.tiling tile }
     requires count { length unmasked.now ≡ pixels_in gradients.now.window }
     ensures { IfOk result (λ made. (mask : Field Bool) → TellsMask (window_of scene.now.tiling tile) unmasked.now mask → AreCertifiedCorrections (raster_of scene.now) mask tile (window_of scene.now.tiling tile) made.0 made.1.items) }
@@ -88,7 +88,7 @@ fn least_corrections(
     if let Some(answer) = guessed_corrections(alloc, &problem, guess)? {
         return Ok(answer);
     }
-    network_corrections(alloc, scene, gradients, unmasked)
+    network_corrections(alloc, &scene.sheet(), gradients, unmasked)
 }
 
 /// The given guess, or that of the fast solver, if it is found to be an answer, and otherwise None. Neither promises

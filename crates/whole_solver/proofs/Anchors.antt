@@ -1,13 +1,15 @@
 -- Cycles that are lowered alike, so that the first open pixel has none.
-use Rattle.std.proofs.Common.{◌≡◌, ℕ, ◌+◌, ◌*◌, ◌<◌, ◌≤◌, ◌^◌, ◌⊎◌, ℤ, List, length, refl, arith, inl, inr, Bool}
+use Rattle.std.proofs.Common.{◌≡◌, ℕ, ◌+◌, ◌*◌, ◌<◌, ◌≤◌, ◌⊎◌, ℤ, List, length, refl, arith, inl, inr, Bool}
 use Rattle.std.specs.Prelude.{pos, ◌-ℤ◌, slice_index_or, unsigned_abs}
 use Rattle.std.proofs.lemmas.Int.{ints}
 use Rattle.std.proofs.lemmas.List.{get_or_past, get_or_read_under}
 use Rattle.std.proofs.lemmas.Nat.{mul-add-lt}
+use Rattle.raster_model.specs.declared.limits.TheConstants.{MAX_WHOLE_CYCLES}
 use Rattle.raster_model.specs.Raster.{Raster, lifted}
 use Rattle.raster_model.specs.Seams.{IsAnchored, IsFirstOpen}
 use Rattle.raster_model.specs.Sums.{Field}
 use Rattle.certificates.proofs.SeamVerdictLemmas.{anchored}
+use Rattle.whole_solver.specs.declared.limits.TheConstants.{MAX_UNMOVED_CYCLES}
 use Rattle.whole_solver.specs.Cycles.{AreSmallCycles, whole_cycles}
 
 below : (p n m : ℕ) → p < m → n ≡ m → p < n
@@ -16,7 +18,7 @@ below p n m l e = omega (arith, l, e)
 under_or_past : (k n : ℕ) → (k < n) ⊎ (n ≤ k)
 under_or_past k n = grind arith
 
-difference_small : (a b : ℤ) → unsigned_abs a ≤ 2 ^ 44 → unsigned_abs b ≤ 2 ^ 44 → unsigned_abs (a -ℤ b) ≤ 2 ^ 46
+difference_small : (a b : ℤ) → unsigned_abs a ≤ MAX_UNMOVED_CYCLES → unsigned_abs b ≤ MAX_UNMOVED_CYCLES → unsigned_abs (a -ℤ b) ≤ MAX_WHOLE_CYCLES
 difference_small a b l m = omega (arith, ints, l, m)
 
 nothing : (a : ℤ) → a -ℤ a ≡ pos 0
@@ -38,7 +40,7 @@ module _ (w h : ℕ) (cycles : List ℤ) (count : length cycles ≡ w * h) where
     pub lower_there : (x y : ℕ) → x < w → y < h → whole_cycles w made x y ≡ whole_cycles w cycles x y -ℤ by
     lower_there x y l m = lower (y * w + x) (has_place x y l m)
 
-    pub stays_small : unsigned_abs by ≤ 2 ^ 44 → ((k : ℕ) → unsigned_abs (slice_index_or cycles k (pos 0)) ≤ 2 ^ 44) → AreSmallCycles made
+    pub stays_small : unsigned_abs by ≤ MAX_UNMOVED_CYCLES → ((k : ℕ) → unsigned_abs (slice_index_or cycles k (pos 0)) ≤ MAX_UNMOVED_CYCLES) → AreSmallCycles made
     stays_small b within k =
         elim (under_or_past k (length cycles)) [
           | inl l ↦ rw (lower k l) (difference_small (slice_index_or cycles k (pos 0)) by (within k) b)

@@ -1,29 +1,33 @@
 -- The window of the whole raster, which is the window of its one tile, and its pixels in row order.
 use Rattle.std.proofs.Common.{◌≡◌, ◌∙◌, ℕ, ◌+◌, ◌-◌, ◌*◌, ◌/◌, ◌%◌, ◌<◌, ◌≤◌, ap, ap₂, sym, refl, arith, inl, inr, List, [], ◌∷◌, ◌++◌, length, Bool, false}
-use Rattle.std.specs.Prelude.{slice_index_or}
+use Rattle.std.specs.Prelude.{ℤ, slice_index_or}
 use Rattle.std.proofs.Math.Seq.{get_or-append_seam}
 use Rattle.std.proofs.lemmas.List.{get_or_append_left, length-append}
-use Rattle.std.proofs.lemmas.Nat.{div-mul-add, mod-mul-add}
-use Rattle.raster_model.specs.declared.scene.Scene.{Scene}
-use Rattle.raster_model.specs.Scene.{raster_of}
+use Rattle.std.proofs.lemmas.Nat.{div-mul-add, mod-mul-add, mul-le}
+use Rattle.raster_model.specs.declared.sheet.Sheet.{Sheet}
+use Rattle.raster_model.specs.Sheets.{sheet_raster}
+use Rattle.raster_model.specs.Limits.{max_pixels}
 use Rattle.raster_model.specs.Sums.{Field}
 use Rattle.raster_model.specs.Tiles.{IsWindowIn, height_of, width_of, IsTileWindow}
+use Rattle.wrapped_gradient.specs.declared.corrections.Corrections.{Corrections}
+use Rattle.wrapped_gradient.specs.Corrections.{greatest_of}
 use Rattle.wrapped_gradient.proofs.Places.{place_within}
+use Rattle.surface_integration.specs.Cycles.{LieWithin, StaySmall}
 use Rattle.dual_grid.specs.Nodes.{cells_of}
 use Rattle.dual_grid.specs.Starts.{TellsMask}
-use Rattle.dual_grid.proofs.EdgeLemmas.{few_cells}
 use Rattle.raster_model.specs.Whole.{whole_of}
+use Rattle.whole_solver.specs.declared.limits.TheConstants.{MAX_UNMOVED_CYCLES}
 use Rattle.whole_solver.specs.Solved.{raster_window}
 use Rattle.sums_and_lists.proofs.Orders.{below_or_last}
 
-pub window_inside : (s : Scene) → IsWindowIn s.phase.width s.phase.height (raster_window s)
+pub window_inside : (s : Sheet) → IsWindowIn s.phase.now.width s.phase.now.height (raster_window (sheet_raster s))
 window_inside s =
-    let wide = s.wide in
-    let high = s.high in
+    let wide = s.phase.now.wide in
+    let high = s.phase.now.high in
     record { across = (omega arith, omega (arith, wide)); along = (omega arith, omega (arith, high)) }
 
 -- the whole raster's one tile has exactly the window's pixels
-pub whole_tile : (s : Scene) → IsTileWindow (whole_of (raster_of s)) 0 (raster_window s)
+pub whole_tile : (s : Sheet) → IsTileWindow (whole_of (sheet_raster s)) 0 (raster_window (sheet_raster s))
 whole_tile s =
     let is = window_inside s in
     record {
@@ -32,17 +36,26 @@ whole_tile s =
       pixels = λ x y l m. (λ e. (omega arith, omega (arith, l), omega arith, omega (arith, m)), λ w. refl);
     }
 
-pub pixels_are : (s : Scene) → width_of (raster_window s) * height_of (raster_window s) ≡ s.phase.width * s.phase.height
+pub pixels_are : (s : Sheet) → width_of (raster_window (sheet_raster s)) * height_of (raster_window (sheet_raster s)) ≡ s.phase.now.width * s.phase.now.height
 pixels_are s =
-    let wide = s.wide in
-    let high = s.high in
+    let wide = s.phase.now.wide in
+    let high = s.phase.now.high in
     ap₂ (λ (w h : ℕ). w * h) (omega (arith, wide)) (omega (arith, high))
 
-pub few_cells_whole : (s : Scene) → cells_of (raster_window s) ≤ 16769025
+pub few_cells_whole : (s : Sheet) → cells_of (raster_window (sheet_raster s)) ≤ max_pixels
 few_cells_whole s =
-    let wide = s.wide in
-    let high = s.high in
-    few_cells (raster_window s) (record { across = (omega arith, omega (arith, wide)); along = (omega arith, omega (arith, high)) })
+    let w = s.phase.now.width in
+    let h = s.phase.now.height in
+    let fewer = mul-le (h - 1 - 0) (w - 1 - 0) h w (omega arith) (omega arith) in
+    omega (arith, fewer, s.phase.now.few)
+
+-- cycles of a surface over it whose first pixel has 0, for corrections as a network answers them
+pub stay_unmoved : (s : Sheet) (k : Corrections) (cycles : Field ℤ) → greatest_of k ≤ cells_of (raster_window (sheet_raster s)) + 1 → StaySmall (raster_window (sheet_raster s)) cycles (greatest_of k) → LieWithin (raster_window (sheet_raster s)) cycles MAX_UNMOVED_CYCLES
+stay_unmoved s k cycles small stay x y i =
+    let wide = s.phase.now.wide in
+    let high = s.phase.now.high in
+    let most = mul-le (x - 0 + (y - 0)) (greatest_of k + 1) 131068 268435458 (omega (arith, i, wide, high)) (omega (arith, small, few_cells_whole s)) in
+    omega (arith, most, stay x y i)
 
 -- the first n pixels in row order are listed
 pub record AreListed (w n : ℕ) (mask : Field Bool) (list : List Bool) : Type 0 where
@@ -70,14 +83,14 @@ place_is y w x l =
     rw (across, row, column) refl
 
 -- all of them tell the mask
-pub all_listed : (s : Scene) (mask : Field Bool) (list : List Bool) → AreListed s.phase.width (s.phase.width * s.phase.height) mask list → TellsMask (raster_window s) list mask
+pub all_listed : (s : Sheet) (mask : Field Bool) (list : List Bool) → AreListed s.phase.now.width (s.phase.now.width * s.phase.now.height) mask list → TellsMask (raster_window (sheet_raster s)) list mask
 all_listed s mask list h x y i =
-    let w = s.phase.width in
-    let wide = s.wide in
-    let high = s.high in
+    let w = s.phase.now.width in
+    let wide = s.phase.now.wide in
+    let high = s.phase.now.high in
     let column : x < w = omega (arith, i, wide) in
-    let row : y < s.phase.height = omega (arith, i, high) in
-    let inside : y * w + x < w * s.phase.height = place_within w s.phase.height y x row column in
+    let row : y < s.phase.now.height = omega (arith, i, high) in
+    let inside : y * w + x < w * s.phase.now.height = place_within w s.phase.now.height y x row column in
     ap (λ (k : ℕ). slice_index_or list k false) (place_is y w x wide.0)
     ∙ h.values (y * w + x) inside
     ∙ ap₂ (λ (a b : ℕ). mask a b) (mod-mul-add y w x column) (div-mul-add y w x column)

@@ -1,6 +1,6 @@
 ghost use Rattle.raster_model.specs.Masks.{open_at};
 ghost use Rattle.raster_model.specs.Raster.{lifted};
-ghost use Rattle.raster_model.specs.Scene.{raster_of};
+ghost use Rattle.raster_model.specs.Sheets.{sheet_raster};
 ghost use Rattle.raster_model.specs.Seams.{IsAnchored};
 ghost use Rattle.std.specs.Prelude.{◌≡◌, ◌*◌, IfNone, IfSome, IsTrue, length};
 ghost use Rattle.whole_solver.specs.Cycles.{AreSmallCycles, whole_cycles};
@@ -8,21 +8,21 @@ ghost use Rattle.whole_solver.specs.Results.{AreRight, IsGoodWhole};
 
 use crate::result::WholeResult;
 use certificates::check_whole;
-use raster_model::{Heights, MAX_WHOLE_CYCLES, Mask, Scene, first_open};
+use raster_model::{Heights, MAX_WHOLE_CYCLES, Mask, Sheet};
 
 /// The result with these cycles and faces, if they are right: a number of cycles for each pixel, none of them too great and
 /// 0 at the first open pixel, and faces that certify their surface.
 pub(crate) fn certified(
-    scene: &Scene,
+    sheet: &Sheet,
     mask: &Mask,
     cycles: Vec<i64>,
     faces: Vec<i64>,
 ) -> Option<WholeResult>
-    requires same_size { (mask.now.width ≡ scene.now.phase.width) × (mask.now.height ≡ scene.now.phase.height) }
-    ensures found { IfSome result (IsGoodWhole scene.now (open_at mask.now)) }
-    ensures none { IfNone result (AreRight scene.now (open_at mask.now) cycles.items faces.items → ⊥) }
+    requires same_size { (mask.now.width ≡ sheet.now.phase.now.width) × (mask.now.height ≡ sheet.now.phase.now.height) }
+    ensures found { IfSome result (IsGoodWhole (sheet_raster sheet.now) (open_at mask.now)) }
+    ensures none { IfNone result (AreRight (sheet_raster sheet.now) (open_at mask.now) cycles.items faces.items → ⊥) }
 {
-    let pixels = scene.phase.width as usize * scene.phase.height as usize;
+    let pixels = sheet.phase.width as usize * sheet.phase.height as usize;
     if cycles.len() != pixels {
         return None;
     }
@@ -30,26 +30,26 @@ pub(crate) fn certified(
         return None;
     }
     let solved = WholeResult {
-        width: scene.phase.width,
+        width: sheet.phase.width,
         cost: 0,
         cycles,
         faces,
     };
-    judged(scene, mask, solved)
+    judged(sheet, mask, solved)
 }
 
 /// A result with its cost, if it is anchored and its faces certify it.
-fn judged(scene: &Scene, mask: &Mask, solved: WholeResult) -> Option<WholeResult>
-    requires same_size { (mask.now.width ≡ scene.now.phase.width) × (mask.now.height ≡ scene.now.phase.height) }
-    requires width { solved.width ≡ scene.now.phase.width }
-    requires count { length solved.cycles.items ≡ scene.now.phase.width * scene.now.phase.height }
-    ensures found { IfSome result (IsGoodWhole scene.now (open_at mask.now)) }
-    ensures none { IfNone result (AreRight scene.now (open_at mask.now) solved.cycles.items solved.faces.items → ⊥) }
+fn judged(sheet: &Sheet, mask: &Mask, solved: WholeResult) -> Option<WholeResult>
+    requires same_size { (mask.now.width ≡ sheet.now.phase.now.width) × (mask.now.height ≡ sheet.now.phase.now.height) }
+    requires width { solved.width ≡ sheet.now.phase.now.width }
+    requires count { length solved.cycles.items ≡ sheet.now.phase.now.width * sheet.now.phase.now.height }
+    ensures found { IfSome result (IsGoodWhole (sheet_raster sheet.now) (open_at mask.now)) }
+    ensures none { IfNone result (AreRight (sheet_raster sheet.now) (open_at mask.now) solved.cycles.items solved.faces.items → ⊥) }
 {
-    if !is_anchored(scene, mask, &solved) {
+    if !is_anchored(sheet, mask, &solved) {
         return None;
     }
-    let Ok(cost) = check_whole(scene, mask, &solved, &solved.faces) else {
+    let Ok(cost) = check_whole(sheet, mask, &solved, &solved.faces) else {
         return None;
     };
     let WholeResult {
@@ -79,14 +79,14 @@ pub(crate) fn are_small(cycles: &[i64]) -> bool
 }
 
 /// Whether the cycles at the first open pixel, if there is one, are 0.
-pub(crate) fn is_anchored(scene: &Scene, mask: &Mask, solved: &WholeResult) -> bool
-    requires same_size { (mask.now.width ≡ scene.now.phase.width) × (mask.now.height ≡ scene.now.phase.height) }
-    requires width { solved.now.width ≡ scene.now.phase.width }
-    requires count { length solved.now.cycles.items ≡ scene.now.phase.width * scene.now.phase.height }
-    ensures known { IsTrue result → IsAnchored (raster_of scene.now) (open_at mask.now) (lifted (raster_of scene.now) (whole_cycles scene.now.phase.width solved.now.cycles.items)) }
-    ensures all { IsAnchored (raster_of scene.now) (open_at mask.now) (lifted (raster_of scene.now) (whole_cycles scene.now.phase.width solved.now.cycles.items)) → IsTrue result }
+pub(crate) fn is_anchored(sheet: &Sheet, mask: &Mask, solved: &WholeResult) -> bool
+    requires same_size { (mask.now.width ≡ sheet.now.phase.now.width) × (mask.now.height ≡ sheet.now.phase.now.height) }
+    requires width { solved.now.width ≡ sheet.now.phase.now.width }
+    requires count { length solved.now.cycles.items ≡ sheet.now.phase.now.width * sheet.now.phase.now.height }
+    ensures known { IsTrue result → IsAnchored (sheet_raster sheet.now) (open_at mask.now) (lifted (sheet_raster sheet.now) (whole_cycles sheet.now.phase.now.width solved.now.cycles.items)) }
+    ensures all { IsAnchored (sheet_raster sheet.now) (open_at mask.now) (lifted (sheet_raster sheet.now) (whole_cycles sheet.now.phase.now.width solved.now.cycles.items)) → IsTrue result }
 {
-    match first_open(scene, mask) {
+    match sheet.first_open(mask) {
         Some((x, y)) => solved.cycles(x, y) == 0,
         None => true,
     }

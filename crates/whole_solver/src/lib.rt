@@ -1,8 +1,9 @@
-//! Solves the whole raster of a scene as one tile: the surface that costs least of all, and the faces that prove it.
+//! Solves the whole raster of a sheet as one tile: the surface that costs least of all, and the faces that prove it.
 #![tactic(auto)]
 
 mod anchoring;
 mod judging;
+mod limits;
 mod network;
 mod result;
 mod solving;

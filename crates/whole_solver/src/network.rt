@@ -1,7 +1,7 @@
 ghost use Rattle.dual_grid.specs.Answers.{AreCertifiedOver};
 ghost use Rattle.dual_grid.specs.Starts.{TellsMask};
 ghost use Rattle.raster_model.specs.Masks.{open_at};
-ghost use Rattle.raster_model.specs.Scene.{raster_of};
+ghost use Rattle.raster_model.specs.Sheets.{sheet_raster};
 ghost use Rattle.raster_model.specs.Sums.{Field};
 ghost use Rattle.raster_model.specs.Tiles.{height_of, width_of};
 ghost use Rattle.raster_model.specs.Whole.{IsCertifiedWhole};
@@ -10,8 +10,9 @@ ghost use Rattle.surface_integration.specs.Cycles.{LieWithin, cycles_at};
 ghost use Rattle.whole_solver.specs.Solved.{listed_surface, raster_window as window_of_raster};
 ghost use Rattle.wrapped_gradient.specs.Gradients.{AreGradientsOf};
 
+use crate::limits::MAX_UNMOVED_CYCLES;
 use network_solver::{network_corrections, network_corrections_from};
-use raster_model::{MAX_REACHED_CYCLES, Mask, Scene, Window};
+use raster_model::{Mask, Sheet, Window};
 use std::alloc::{AllocError, Global};
 use surface_integration::integrate_wide;
 use whole_guess::Reached;
@@ -26,26 +27,26 @@ pub(crate) struct WholeSurface {
     pub(crate) faces: Vec<i64>,
 }
 
-/// Solves the whole raster of a scene as one tile, by its network, from what was reached, if anything was. The mask has the scene's size. The faces certify the
-/// surface, so no congruent surface costs less. The first pixel has 0 cycles, and none has more than 2^44. It fails only
-/// for lack of memory. (Costantini 1998.)
+/// Solves the whole raster of a sheet as one tile, by its network, from what was reached, if anything was. The mask has the
+/// sheet's size. The faces certify the surface, so no congruent surface costs less. The first pixel has 0 cycles, and none has
+/// more than 2^45. It fails only for lack of memory. (Costantini 1998.)
 pub(crate) fn solve_by_network(
     alloc: Global,
-    scene: &Scene,
+    sheet: &Sheet,
     mask: &Mask,
     reached: Option<Reached>,
 ) -> Result<WholeSurface, AllocError>
-    requires across { mask.now.width ≡ scene.now.phase.width }
-    requires along { mask.now.height ≡ scene.now.phase.height }
-    ensures count { IfOk result (λ solved. vec_len solved.cycles ≡ scene.now.phase.width * scene.now.phase.height) }
-    ensures first { IfOk result (λ solved. cycles_at (window_of_raster scene.now) solved.cycles.items 0 0 ≡ pos 0) }
-    ensures certified { IfOk result (λ solved. IsCertifiedWhole (raster_of scene.now) (open_at mask.now) (listed_surface scene.now solved.cycles.items) solved.faces.items) }
-    ensures within { IfOk result (λ solved. LieWithin (window_of_raster scene.now) (cycles_at (window_of_raster scene.now) solved.cycles.items) (MAX_REACHED_CYCLES)) }
+    requires across { mask.now.width ≡ sheet.now.phase.now.width }
+    requires along { mask.now.height ≡ sheet.now.phase.now.height }
+    ensures count { IfOk result (λ solved. vec_len solved.cycles ≡ sheet.now.phase.now.width * sheet.now.phase.now.height) }
+    ensures first { IfOk result (λ solved. cycles_at (window_of_raster (sheet_raster sheet.now)) solved.cycles.items 0 0 ≡ pos 0) }
+    ensures certified { IfOk result (λ solved. IsCertifiedWhole (sheet_raster sheet.now) (open_at mask.now) (listed_surface (sheet_raster sheet.now) solved.cycles.items) solved.faces.items) }
+    ensures within { IfOk result (λ solved. LieWithin (window_of_raster (sheet_raster sheet.now)) (cycles_at (window_of_raster (sheet_raster sheet.now)) solved.cycles.items) MAX_UNMOVED_CYCLES) }
 {
-    let gradients = Gradients::of(alloc, scene, raster_window(scene))?;
-    let unmasked = open_pixels(alloc, scene, mask)?;
-    let (corrections, faces) = least_corrections(alloc, scene, &gradients, &unmasked, reached)?;
-    let cycles = integrate_wide(alloc, scene, &gradients, &corrections)?;
+    let gradients = Gradients::over(alloc, sheet, raster_window(sheet))?;
+    let unmasked = open_pixels(alloc, sheet, mask)?;
+    let (corrections, faces) = least_corrections(alloc, sheet, &gradients, &unmasked, reached)?;
+    let cycles = integrate_wide(alloc, sheet, &gradients, &corrections)?;
     Ok(WholeSurface { cycles, faces })
 }
 
@@ -53,45 +54,45 @@ pub(crate) fn solve_by_network(
 /// reached, if anything was.
 fn least_corrections(
     alloc: Global,
-    scene: &Scene,
+    sheet: &Sheet,
     gradients: &Gradients,
     unmasked: &[bool],
     reached: Option<Reached>,
 ) -> Result<(Corrections, Vec<i64>), AllocError>
-    requires gradients { AreGradientsOf scene.now gradients.now }
+    requires gradients { AreGradientsOf (sheet_raster sheet.now) gradients.now }
     requires count { length unmasked.now ≡ width_of gradients.now.window * height_of gradients.now.window }
-    ensures { IfOk result (λ made. (mask : Field Bool) → TellsMask gradients.now.window unmasked.now mask → AreCertifiedOver scene.now mask gradients.now.window made.0 made.1.items) }
+    ensures { IfOk result (λ made. (mask : Field Bool) → TellsMask gradients.now.window unmasked.now mask → AreCertifiedOver (sheet_raster sheet.now) mask gradients.now.window made.0 made.1.items) }
 {
     match reached {
-        None => network_corrections(alloc, scene, gradients, unmasked),
+        None => network_corrections(alloc, sheet, gradients, unmasked),
         Some(Reached { right, down, faces }) => {
             let flows = Corrections { right, down };
-            network_corrections_from(alloc, scene, gradients, unmasked, flows, &faces)
+            network_corrections_from(alloc, sheet, gradients, unmasked, flows, &faces)
         }
     }
 }
 
 /// The window of the whole raster.
-fn raster_window(scene: &Scene) -> Window
-    ensures { result ≡ window_of_raster scene.now }
+fn raster_window(sheet: &Sheet) -> Window
+    ensures { result ≡ window_of_raster (sheet_raster sheet.now) }
 {
     Window {
         x0: 0,
         y0: 0,
-        x1: scene.phase.width - 1,
-        y1: scene.phase.height - 1,
+        x1: sheet.phase.width - 1,
+        y1: sheet.phase.height - 1,
     }
 }
 
 /// For each pixel in row order, whether it is open.
-fn open_pixels(alloc: Global, scene: &Scene, mask: &Mask) -> Result<Vec<bool>, AllocError>
-    requires across { mask.now.width ≡ scene.now.phase.width }
-    requires along { mask.now.height ≡ scene.now.phase.height }
-    ensures count { IfOk result (λ list. length list.items ≡ scene.now.phase.width * scene.now.phase.height) }
-    ensures told { IfOk result (λ list. TellsMask (window_of_raster scene.now) list.items (open_at mask.now)) }
+fn open_pixels(alloc: Global, sheet: &Sheet, mask: &Mask) -> Result<Vec<bool>, AllocError>
+    requires across { mask.now.width ≡ sheet.now.phase.now.width }
+    requires along { mask.now.height ≡ sheet.now.phase.now.height }
+    ensures count { IfOk result (λ list. length list.items ≡ sheet.now.phase.now.width * sheet.now.phase.now.height) }
+    ensures told { IfOk result (λ list. TellsMask (window_of_raster (sheet_raster sheet.now)) list.items (open_at mask.now)) }
 {
-    let width = scene.phase.width;
-    let pixels = width * scene.phase.height;
+    let width = sheet.phase.width;
+    let pixels = width * sheet.phase.height;
     let mut list = Vec::with_capacity(alloc, pixels as usize)?;
     for place in 0..pixels {
         list.push(mask.is_open(place % width, place / width))?;

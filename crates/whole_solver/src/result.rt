@@ -3,7 +3,7 @@ ghost use Rattle.std.specs.Prelude.{◌≡◌};
 
 use raster_model::Heights;
 
-/// The surface that costs least over the whole raster of a scene, and the numbers that prove it.
+/// The surface that costs least over the whole raster of a sheet, and the numbers that prove it.
 #[derive(Drop)]
 pub struct WholeResult {
     /// Pixels in a row.

@@ -7,7 +7,7 @@ pub anchored-cycles-requires-clause-within : goal.anchored-cycles-requires-claus
 anchored-cycles-requires-clause-within c =
     let k = c.in_ok-cycles.field-0 in
     let told = c.in_ok-cycles.ensures {u = tt} in
-    all_within c.args.scene.now k.cycles.items (sym k.cycles.ok.0 ∙ told.count) told.within
+    all_within c.args.sheet.now k.cycles.items (sym k.cycles.ok.0 ∙ told.count) told.within
 
 pub unreachable-requires : goal.unreachable-requires
 unreachable-requires c =
@@ -18,5 +18,5 @@ unreachable-requires c =
       count = made.count;
       small = made.small;
       anchored = made.anchored;
-      certified = moved_certified c.args.scene.now (open_at c.args.mask.now) k.cycles.items c.anchored-cycles.result.items k.faces.items made.moved.0 made.moved.1 told.certified;
+      certified = moved_certified c.args.sheet.now (open_at c.args.mask.now) k.cycles.items c.anchored-cycles.result.items k.faces.items made.moved.0 made.moved.1 told.certified;
     })

@@ -7,7 +7,7 @@ use Rattle.joined_cells.specs.Flood.{IsNumbered}
 use Rattle.auto_masks.specs.Flood.{keys_joined}
 use Rattle.auto_masks.specs.Patches.{ArePatchesOf, is_keyed, keyed}
 
-module _ (w h : ℕ) (K : Field ℤ) (labels : List ℕ) (count : ℕ) (wide : 0 < w) (few : count ≤ h * w) (limit : w * h ≤ 4194304) (is : IsNumbered (keys_joined w h K) (h * w) count labels) where
+module _ (w h : ℕ) (K : Field ℤ) (labels : List ℕ) (count : ℕ) (wide : 0 < w) (few : count ≤ h * w) (limit : w * h ≤ 268435456) (is : IsNumbered (keys_joined w h K) (h * w) count labels) where
   pub patches_are : ArePatchesOf w h K (record { width = w; height = h; labels = labels; count = count })
   patches_are = record {
     width = refl;

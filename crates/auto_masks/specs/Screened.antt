@@ -1,7 +1,7 @@
 -- First masks that drop weak pixels, pixels with few strong ones near them, and small islands.
 use Rattle.std.specs.Prelude.{ℕ, ◌+◌, ◌≤◌, nat_le, ℤ, pos, Bool, ◌&&◌, if◌then◌else◌}
 use Rattle.raster_model.specs.declared.plane.Plane.{Plane}
-use Rattle.raster_model.specs.Limits.{max_tiled_pixels}
+use Rattle.raster_model.specs.Limits.{max_pixels}
 use Rattle.raster_model.specs.MaskView.{MaskView}
 use Rattle.raster_model.specs.Masks.{IsMaskOf}
 use Rattle.raster_model.specs.Planes.{plane_sample}
@@ -22,7 +22,7 @@ max_near = 16641
 pub record AreScreenTerms (terms : ScreenTerms) : Type 0 where
   pub radius : terms.radius ≤ max_radius
   pub count : terms.count ≤ max_near
-  pub patch : terms.patch ≤ max_tiled_pixels
+  pub patch : terms.patch ≤ max_pixels
 
 -- a weight and a count of near strong pixels are enough
 abbrev pub is_enough : ScreenTerms → ℕ → ℕ → Bool

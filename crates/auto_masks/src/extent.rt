@@ -1,4 +1,4 @@
-ghost use Rattle.raster_model.specs.Limits.{max_tiled_pixels, max_tiled_side};
+ghost use Rattle.raster_model.specs.Limits.{max_pixels, max_side};
 ghost use Rattle.std.specs.Prelude.{◌*◌, ◌≤◌};
 
 /// The size of a raster, in pixels.
@@ -6,7 +6,7 @@ ghost use Rattle.std.specs.Prelude.{◌*◌, ◌≤◌};
 pub struct Extent {
     pub width: u32,
     pub height: u32,
-    pub ghost wide: { (1 ≤ width) × (width ≤ max_tiled_side) },
-    pub ghost high: { (1 ≤ height) × (height ≤ max_tiled_side) },
-    pub ghost few: { width * height ≤ max_tiled_pixels },
+    pub ghost wide: { (1 ≤ width) × (width ≤ max_side) },
+    pub ghost high: { (1 ≤ height) × (height ≤ max_side) },
+    pub ghost few: { width * height ≤ max_pixels },
 }

@@ -1,5 +1,5 @@
 ghost use Rattle.auto_masks.specs.Keeping.{AreScreenedSoFar, is_large as is_large_patch};
-ghost use Rattle.raster_model.specs.Limits.{is_tiled_size};
+ghost use Rattle.raster_model.specs.Limits.{is_raster_size};
 ghost use Rattle.raster_model.specs.Masks.{IsMaskOf};
 ghost use Rattle.std.specs.Prelude.{◌≡◌, ◌+◌, ◌*◌, ◌<◌, IfOk, IsTrue};
 
@@ -15,7 +15,7 @@ pub fn keep_patches(
     extent: Extent,
     least: u32,
 ) -> Result<Mask, AllocError>
-    requires limits { IsTrue (is_tiled_size extent.width extent.height) }
+    requires limits { IsTrue (is_raster_size extent.width extent.height) }
     requires across { patches.now.width ≡ extent.width }
     requires along { patches.now.height ≡ extent.height }
     ensures { IfOk result (λ kept. IsMaskOf kept extent.width extent.height (is_large_patch patches.now least)) }

@@ -1,5 +1,5 @@
 ghost use Rattle.auto_masks.specs.Flood.{HasJoined, HasNumbered};
-ghost use Rattle.raster_model.specs.Limits.{max_tiled_pixels};
+ghost use Rattle.raster_model.specs.Limits.{max_pixels};
 ghost use Rattle.std.specs.Prelude.{◌≡◌, ◌+◌, ◌*◌, ◌<◌, ◌≤◌, IfOk, length};
 
 use crate::extent::Extent;
@@ -44,7 +44,7 @@ fn number_all(labels: &mut [u32], extent: Extent, keys: &[i64]) -> u32
 /// Numbers the pixel at a place. The result is how many numbers are given then.
 fn number_pixel(labels: &mut [u32], extent: Extent, keys: &[i64], place: usize, count: u32) -> u32
     requires within { (place < length labels.old) × (place < length keys.now) }
-    requires room { count ≤ max_tiled_pixels }
+    requires room { count ≤ max_pixels }
     requires numbered { HasNumbered extent keys.now place count labels.old }
     ensures { HasNumbered extent keys.now (place + 1) result labels.new }
 {

@@ -23,25 +23,25 @@ impl Model for Patches {
     ghost use Rattle.auto_masks.specs.Patches.{first_place, patch_size};
     ghost use Rattle.auto_masks.specs.PatchesView.{PatchesView};
     ghost use Rattle.joined_cells.specs.Flood.{no_label};
-    ghost use Rattle.raster_model.specs.Limits.{is_tiled_size};
+    ghost use Rattle.raster_model.specs.Limits.{is_raster_size};
     ghost use Rattle.std.specs.Prelude.{◌≡◌, ◌*◌, ◌<◌, ◌≤◌, ℕ, IsTrue, slice_index, vec_len};
 
     ghost Value = { PatchesView };
 
     ghost view = { λ p. record { width = p.width; height = p.height; labels = p.labels.items; count = vec_len p.sizes } };
 
-    ghost invariant = { λ p. IsTrue (is_tiled_size p.width p.height) × (vec_len p.labels ≡ p.width * p.height) × (vec_len p.sizes ≤ p.width * p.height) × (vec_len p.firsts ≡ vec_len p.sizes) × ((n : ℕ) → n < vec_len p.sizes → slice_index p.sizes.items n ≡ patch_size (record { width = p.width; height = p.height; labels = p.labels.items; count = vec_len p.sizes }) n) × ((n : ℕ) → n < vec_len p.sizes → slice_index p.firsts.items n ≡ first_place (record { width = p.width; height = p.height; labels = p.labels.items; count = vec_len p.sizes }) n) × ((i : ℕ) → i < vec_len p.labels → slice_index p.labels.items i < no_label → slice_index p.labels.items i < vec_len p.sizes) };
+    ghost invariant = { λ p. IsTrue (is_raster_size p.width p.height) × (vec_len p.labels ≡ p.width * p.height) × (vec_len p.sizes ≤ p.width * p.height) × (vec_len p.firsts ≡ vec_len p.sizes) × ((n : ℕ) → n < vec_len p.sizes → slice_index p.sizes.items n ≡ patch_size (record { width = p.width; height = p.height; labels = p.labels.items; count = vec_len p.sizes }) n) × ((n : ℕ) → n < vec_len p.sizes → slice_index p.firsts.items n ≡ first_place (record { width = p.width; height = p.height; labels = p.labels.items; count = vec_len p.sizes }) n) × ((i : ℕ) → i < vec_len p.labels → slice_index p.labels.items i < no_label → slice_index p.labels.items i < vec_len p.sizes) };
 }
 
 impl Patches {
     ghost use Rattle.auto_masks.specs.Patches.{ArePatchesOf, first_column, first_row, key_at, patch_at, patch_size};
-    ghost use Rattle.raster_model.specs.Limits.{is_tiled_size};
+    ghost use Rattle.raster_model.specs.Limits.{is_raster_size};
     ghost use Rattle.std.specs.Prelude.{◌≡◌, ◌*◌, ◌<◌, ◌≤◌, IfOk, IfSome, IsTrue, length};
 
     /// The patches of a raster of `width` by `height` pixels with a key for each pixel in row order. It fails only for
     /// lack of memory.
     pub fn of(alloc: Global, width: u32, height: u32, keys: &[i64]) -> Result<Patches, AllocError>
-        requires limits { IsTrue (is_tiled_size width height) }
+        requires limits { IsTrue (is_raster_size width height) }
         requires full { length keys.now ≡ width * height }
         ensures { IfOk result (λ made. ArePatchesOf width height (key_at width keys.now) made) }
     {

@@ -7,6 +7,6 @@ pub struct ScreenTerms {
     pub radius: u32,
     /// The least number of near strong pixels, from 0 to 16641. The pixel itself is one of them.
     pub count: u32,
-    /// The least number of pixels of a patch, from 0 to 4194304.
+    /// The least number of pixels of a patch, from 0 to `MAX_PIXELS`.
     pub patch: u32,
 }

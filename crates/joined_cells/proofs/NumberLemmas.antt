@@ -4,7 +4,7 @@ use Rattle.std.specs.Prelude.{IsTrue, ◌==◌, ◌&&◌, nat_le, slice_index, s
 use Rattle.std.proofs.lemmas.Bool.Decides.{nat_tests}
 use Rattle.std.proofs.lemmas.List.{get_or-set_same, get_or-set_other}
 use Rattle.std.proofs.lemmas.Nat.{mod-mul-add, div-mul-add}
-use Rattle.raster_model.specs.Limits.{is_tiled_size}
+use Rattle.raster_model.specs.Limits.{is_raster_size}
 use Rattle.raster_model.specs.Sums.{Field}
 use Rattle.joined_cells.specs.Flood.{is_first, firsts_before, tree_number, IsNumbered, IsFlood}
 use Rattle.joined_cells.specs.Joining.{Joining}
@@ -99,8 +99,8 @@ numbering_begins joining ps is = record {
 }
 
 -- ---- what the limits of a raster say
-pub size_says : (w h : ℕ) → IsTrue (is_tiled_size w h) → (1 ≤ w) × (1 ≤ h) × (w * h ≤ 4194304)
+pub size_says : (w h : ℕ) → IsTrue (is_raster_size w h) → (1 ≤ w) × (1 ≤ h) × (w * h ≤ 268435456)
 size_says w h t = says w h (w * h) t
   where
-    says : (w h n : ℕ) → IsTrue (nat_le 1 w && nat_le w 4096 && nat_le 1 h && nat_le h 4096 && nat_le n 4194304) → (1 ≤ w) × (1 ≤ h) × (n ≤ 4194304)
+    says : (w h n : ℕ) → IsTrue (nat_le 1 w && nat_le w 65535 && nat_le 1 h && nat_le h 65535 && nat_le n 268435456) → (1 ≤ w) × (1 ≤ h) × (n ≤ 268435456)
     says w h n t = (grind (arith, nat_tests), grind (arith, nat_tests), grind (arith, nat_tests))

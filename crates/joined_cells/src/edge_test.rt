@@ -1,5 +1,5 @@
 ghost use Rattle.joined_cells.specs.Joining.{Joining, joins};
-ghost use Rattle.raster_model.specs.Limits.{is_tiled_size};
+ghost use Rattle.raster_model.specs.Limits.{is_raster_size};
 ghost use Rattle.raster_model.specs.Sums.{at_edge_end, is_edge};
 ghost use Rattle.std.specs.Prelude.{◌≡◌, ◌<◌, IsTrue};
 
@@ -13,7 +13,7 @@ pub trait EdgeTest {
     /// Pixels in a row.
     fn width(&self) -> u32
         ensures width { result ≡ (joining self.now).width }
-        ensures sized { IsTrue (is_tiled_size (joining self.now).width (joining self.now).height) };
+        ensures sized { IsTrue (is_raster_size (joining self.now).width (joining self.now).height) };
 
     /// Rows.
     fn height(&self) -> u32

@@ -14,7 +14,9 @@ fn cost_from<R: Abort + Threads + Sync>(
     patience: u64,
 ) -> u128 {
     let (scene, mask) = (&session.scene, &session.first_mask);
-    let guess = guess_whole_within(rt, alloc, scene, mask, 2, patience).expect(rt, "memory");
+    let guess = guess_whole_within(rt, alloc, &scene.sheet(), mask, 2, patience).expect(
+        rt, "memory",
+    );
     let solved = solve_whole_from(alloc, scene, mask, Some(guess)).expect(rt, "memory");
     solved.cost
 }

@@ -141,7 +141,9 @@ fn left_after<R: Abort + Threads + Sync>(
     patience: u64,
 ) -> Option<u32> {
     let (scene, mask) = (&session.scene, &session.first_mask);
-    let guess = guess_whole_within(rt, alloc, scene, mask, 2, patience).expect(rt, "memory");
+    let guess = guess_whole_within(rt, alloc, &scene.sheet(), mask, 2, patience).expect(
+        rt, "memory",
+    );
     let Guess::Reached(reached) = guess else {
         return Some(0);
     };

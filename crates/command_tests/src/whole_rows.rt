@@ -26,7 +26,7 @@ fn guessed<R: Abort + Threads + Sync>(
 ) -> TileResult
     ensures { result.tile ≡ 0 }
 {
-    let guess = guess_whole(rt, alloc, scene, mask, workers).expect(rt, "memory");
+    let guess = guess_whole(rt, alloc, &scene.sheet(), mask, workers).expect(rt, "memory");
     let Guess::Surface { cycles, faces } = guess else {
         panic!(rt; "no surface");
     };

@@ -47,7 +47,16 @@ use Rattle.insar_commands.proofs.WholeAgain.{whole_verdict_too}
 less_none : (n : ℕ) → n - 0 ≡ n
 less_none n = omega arith
 
-module _ (s : Scene) (mask : Field Bool) (k : WholeResult) (good : IsGoodWhole s mask k) where
+-- what is good of a raster as one tile is so whatever its tiles
+pub good_retiled : (r : Raster) (mask : Field Bool) (k : WholeResult) → IsGoodWhole (whole_of r) mask k → IsGoodWhole r mask k
+unfolding whole_cost
+good_retiled r mask k g = record {
+  width = g.width;
+  right = record { count = g.right.count; small = g.right.small; anchored = g.right.anchored; certified = record { congruent = g.right.certified.congruent; certified = g.right.certified.certified } };
+  cost = g.cost;
+}
+
+module _ (s : Scene) (mask : Field Bool) (k : WholeResult) (good : IsGoodWhole (raster_of s) mask k) where
   abbrev r : Raster
   r = raster_of s
 
@@ -73,7 +82,7 @@ module _ (s : Scene) (mask : Field Bool) (k : WholeResult) (good : IsGoodWhole s
 of_certified : (s : Session) (w : WholeOf) → IsCertifiedText s w → IsWholeOf s w
 of_certified s w c = record { certified = c; least = certified_whole_is_least (raster_of s.scene) (open_at s.first_mask) (surface_told s w) w.faces c.certified }
 
-pub is_whole : (s : Session) (k : WholeResult) → IsGoodWhole s.scene (open_at s.first_mask) k → IsWholeOf s (told_whole s.scene (open_at s.first_mask) (whole_cycles k.width k.cycles.items) k.faces.items k.cost)
+pub is_whole : (s : Session) (k : WholeResult) → IsGoodWhole (raster_of s.scene) (open_at s.first_mask) k → IsWholeOf s (told_whole s.scene (open_at s.first_mask) (whole_cycles k.width k.cycles.items) k.faces.items k.cost)
 is_whole s k good =
     let r : Raster = raster_of s.scene in
     let mask : Field Bool = open_at s.first_mask in

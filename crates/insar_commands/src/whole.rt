@@ -27,7 +27,7 @@ pub fn run_whole<R: Threads + Wait + Sync, S: Source, K: Sink>(
     let session = read_given(rt, alloc, source, settings)?;
     let scene = &session.scene;
     let mask = &session.first_mask;
-    let solved = solve_whole(rt, alloc, scene, mask, settings.workers)?;
+    let solved = solve_whole(rt, alloc, &scene.sheet(), mask, settings.workers)?;
     let put = write_whole(scene, mask, &solved, &solved.faces, solved.cost, sink);
     end_of(put, 0)
 }

@@ -98,10 +98,19 @@ def check_bands(raster: gdal.Dataset, path: str) -> None:
 # Arrays and raw files
 
 
+def loaded(path: str) -> np.ndarray:
+    """The array in a .npy file, mapped from it if that can be done; of an empty one it cannot."""
+    try:
+        found: np.ndarray = np.load(path, mmap_mode="r", allow_pickle=False)
+    except (OSError, ValueError):
+        found = np.load(path, allow_pickle=False)
+    return found
+
+
 def open_array(path: str) -> gdal.Dataset:
     """The array in a .npy file, of which no more is held than what is read, if GDAL has its kind of numbers."""
     try:
-        values = np.load(path, mmap_mode="r", allow_pickle=False)
+        values = loaded(path)
     except FileNotFoundError as error:
         raise Trouble(f"{path}: {error.strerror}", FILE_FAULT) from error
     except (OSError, ValueError, EOFError) as error:

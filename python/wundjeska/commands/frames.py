@@ -620,7 +620,7 @@ def page_text(joint: Joint, asked: Namespace, surface: Reduced, notes: Dict[str,
         for core, numbers, _ in undecided_in(joint.frames):
             flags.add(core, numbers > 0)
     rows, columns = surface.shape
-    shown = Shown(
+    found = Shown(
         title=Path(asked.geotiff).name,
         head=f"{columns} by {rows} pixels, joined of {len(joint.frames)} frames. Filter: {notes['FILTER']}",
         verdict=f"{notes['VERDICT']}; overlaps: {notes['OVERLAPS']}",
@@ -636,7 +636,7 @@ def page_text(joint: Joint, asked: Namespace, surface: Reduced, notes: Dict[str,
         lines=joint.lines,
         files=[("phase", asked.phase), ("coherence", asked.coherence or ""), ("mask", asked.mask or "")],
     )
-    return page_of(shown)
+    return page_of(found)
 
 
 def write_all(joint: Joint, asked: Namespace, outputs: Outputs, places: Places) -> None:

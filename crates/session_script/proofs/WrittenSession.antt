@@ -265,12 +265,9 @@ module _ (m : MaskView) where
 
 -- ---- planes
 
-size_of : (p : Plane) → IsSize p.width p.height
-size_of p = record { across = p.wide; along = p.high; pixels = p.few }
-
-is_plane : (role : Role) (p : Plane) → HasMaxval role p.maxval → IsPlane role (plane_of p)
-is_plane role p m = record {
-  size = size_of p;
+is_plane : (role : Role) (p : Plane) → IsSize p.width p.height → HasMaxval role p.maxval → IsPlane role (plane_of p)
+is_plane role p s m = record {
+  size = s;
   maxval = m;
   count = omega (arith, p.full, p.samples.ok.0);
   samples = All-from_get_or (λ v. v ≤ p.maxval) p.samples.items 0 (λ k lt. p.below k);
@@ -340,14 +337,17 @@ module _ (session : Session) (fits : session.scene.weights.maxval < 2 ^ 16) wher
   some : 1 ≤ length sections
   some = omega (arith, session.analysts.0, length_is session.scripts.items, session.scripts.ok.0)
 
+  phase_size : IsSize session.scene.phase.width session.scene.phase.height
+  phase_size = record { across = session.scene.wide; along = session.scene.high; pixels = session.scene.few }
+
   phase_is : IsPlane Phase phase
-  phase_is = is_plane Phase session.scene.phase session.scene.cycle
+  phase_is = is_plane Phase session.scene.phase phase_size session.scene.cycle
 
   weights_are : IsPlane Weight weights
-  weights_are = is_plane Weight session.scene.weights (session.scene.weights.valued, omega (arith, fits))
+  weights_are = is_plane Weight session.scene.weights (rw (session.scene.same_width.0, session.scene.same_height.0) phase_size) (session.scene.weights.valued, omega (arith, fits))
 
   mask_size : IsSize session.first_mask.width session.first_mask.height
-  mask_size = rw (session.same_size.0, session.same_size.1) phase_is.size
+  mask_size = rw (session.same_size.0, session.same_size.1) phase_size
 
   mask_is : IsPlane Mask (mask_plane session.first_mask)
   mask_is = is_mask_plane session.first_mask mask_size

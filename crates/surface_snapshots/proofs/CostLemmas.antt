@@ -62,6 +62,9 @@ both_seams r mask S x y a b p q = omega (arith, ints, p, q)
 pub seam_adds_none : (b : Bool) (z : ℤ) → b ≡ true → where_true (not b) z ≡ pos 0
 seam_adds_none b z e = rw e refl
 
+pub adds_true : (b : Bool) (z : ℤ) → b ≡ true → where_true b z ≡ z
+adds_true b z e = rw e refl
+
 pub inner_adds : (b : Bool) (z : ℤ) → b ≡ false → where_true (not b) z ≡ z
 inner_adds b z e = rw e refl
 

@@ -1,6 +1,6 @@
 """Tests of what is told before a raster is begun: what it needs, and whether less is free."""
-import os
 import subprocess
+import sys
 import unittest
 import warnings
 from typing import List
@@ -13,6 +13,7 @@ from wundjeska import needs
 from wundjeska.needs import Needs, free_memory, needs_of, tell_needs
 from wundjeska.trouble import Caution
 
+HELD = "import os, subprocess, sys; print(os.wait4(subprocess.Popen(sys.argv[1:]).pid, 0)[2].ru_maxrss)"
 SMALL, LARGE = 100_000, 4_000_000  # pixels
 
 
@@ -60,12 +61,12 @@ class Told(InFolder):
         self.assertEqual(Needs(1460, 400).told(), "needs about 1.5 GB and 7 minutes of a processor")
 
     def test_it_is_about_what_a_run_holds(self) -> None:
-        """By what the system counts of the run."""
+        """By what the system counts of the run, which begins with what the process held that starts it."""
         for words in ((), ("--no-filter",)):
-            with subprocess.Popen(argv("wundjeska", self.phase, *words, self.folder / "o.tif"), stderr=subprocess.PIPE, text=True) as run:
-                assert run.stderr is not None
-                told, held = run.stderr.read(), os.wait4(run.pid, 0)[2].ru_maxrss * 1024 / 1e6
-            self.assertRegex(told, r"phase.tif: needs about 0\.2 GB and [0-9]+ s of a processor\n")
+            call = argv("wundjeska", self.phase, *words, "--force", self.folder / "o.tif")
+            ran = subprocess.run([sys.executable, "-c", HELD, *call], capture_output=True, text=True)
+            held = int(ran.stdout.splitlines()[-1]) * 1024 / 1e6
+            self.assertRegex(ran.stderr, r"phase.tif: needs about 0\.2 GB and [0-9]+ s of a processor\n")
             self.assertLess(abs(held / needs_of(560_000, 560_000, not words).memory - 1), 0.4)
 
     def test_nobody_is_told_of_little_or_in_quiet(self) -> None:

@@ -3,8 +3,6 @@ import fcntl
 import os
 import pty
 import re
-import shutil
-import signal
 import struct
 import subprocess
 import termios
@@ -101,48 +99,6 @@ class Terminal(OnTerminal):
             self.assertEqual((status, len(re.findall("^frame-[01]-[01]: columns", told, re.MULTILINE))), (0, 4))
             (self.folder / "tqdm.py").unlink(missing_ok=True)
         self.assertEqual("4/4 |" in shown, has_module("tqdm"))
-
-
-class Many(OnTerminal):
-    def setUp(self) -> None:
-        super().setUp()
-        for number in (1, 2, 3):
-            scene = self.folder / f"scenes/scene-{number}"
-            scene.mkdir(parents=True)
-            for kind in ("phase", "coherence"):
-                shutil.copy(HERE / f"kit/{kind}.tif", scene)
-
-    def test_scenes(self) -> None:
-        """One fails, and a run after that has nothing to be done but this."""
-        (self.folder / "scenes/scene-2/coherence.tif").write_text("none")
-        for without in (("rich",), ("tqdm", "rich")):
-            status, told, shown = self.run_on_one("scenes", self.folder / "scenes", without=without)
-            self.assertEqual(status, 1, shown)
-            self.assertIn("2 of 3 scenes are accepted and have their surface, 1 failed\n", told)
-            self.assertEqual("50/100 |" in shown, "tqdm" not in without and has_module("tqdm"))
-        self.assertEqual(self.run_on_one("scenes", self.folder / "scenes", "without_coherence=yes", "--quiet")[0], 1)
-
-    def stopped_by(self, sent: signal.Signals) -> None:
-        """That a signal to all of a run ends it, and leaves nothing that runs."""
-        ours, theirs = pty.openpty()
-        words = argv("scenes", self.folder / "scenes")
-        with subprocess.Popen(words, stdout=theirs, stderr=theirs, start_new_session=True) as run:
-            os.close(theirs)
-            found = b""
-            while b"rule unwrap" not in found:
-                found += os.read(ours, 4096)
-            os.killpg(run.pid, sent)
-            shown = self.read(ours)
-        self.assertNotEqual(run.returncode, 0, shown)
-        self.assertNotIn("Traceback", shown)
-        with self.assertRaises(ProcessLookupError):
-            os.killpg(run.pid, 0)
-
-    def test_an_interrupt(self) -> None:
-        self.stopped_by(signal.SIGINT)
-
-    def test_a_termination(self) -> None:
-        self.stopped_by(signal.SIGTERM)
 
 
 if __name__ == "__main__":

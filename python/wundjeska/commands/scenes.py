@@ -2,11 +2,8 @@
 import hashlib
 import json
 import os
-import re
 import shlex
 import shutil
-import signal
-import subprocess
 import sys
 import textwrap
 from dataclasses import asdict
@@ -17,14 +14,11 @@ from ..cluster import MOST_PIXELS
 from ..networks import NO_LOOP, triplets_of
 from ..outputs import keep
 from ..program import program
-from ..progress import advance, say, shown
 from ..scene_words import IGRAM, PAIR, Wanted, is_odd, key_help, scenes_in, wanted
 from ..trouble import FILE_FAULT, REFUSED_WORDS, Trouble
 
 SNAKEFILE = Path(__file__).resolve().parent.parent / "Snakefile"
 SLURM = SNAKEFILE.parent / "slurm"
-STEPS, ALL = re.compile(r"^\d+ of \d+ steps \((\d+)%\) done"), 100  # what Snakemake says of how far it is
-STOPPED = 128  # less the number of the signal: the status of what was ended by one
 BYTES_OF_PHASE = 4  # at least, in a raw raster
 USE = f"""usage: wundjeska scenes FOLDER [KEY=VALUE..] [WORDS..]
 
@@ -137,26 +131,4 @@ def main(words: List[str]) -> int:
         raise Trouble("scenes want Debian's package snakemake", FILE_FAULT)
     environment = {**os.environ, "UNWRAP": program(), "WUNDJESKA_PYTHON": sys.executable}
     more = ["--configfile", str(keep_config(folder, config)), "--cores", "4", "--keep-going", "--rerun-incomplete"]
-    said = [snakemake, "-s", str(SNAKEFILE), "--directory", str(folder), *more, *with_profile(others)]
-    if sys.stderr.isatty() and not {"--quiet", "-q"} & set(others):
-        return watched(said, environment)
-    os.execve(snakemake, said, environment)
-
-
-def watched(words: List[str], environment: Dict[str, str]) -> int:
-    """The status of Snakemake, whose lines are passed on above a bar. Where standard output is the same terminal it is passed on, too."""
-    out, told = (subprocess.PIPE, subprocess.STDOUT) if sys.stdout.isatty() else (None, subprocess.PIPE)
-    process = subprocess.Popen(words, env=environment, stdout=out, stderr=told, text=True, errors="replace")
-    signal.signal(signal.SIGINT, signal.SIG_IGN)  # a terminal sends it to Snakemake, too, which ends its jobs
-    signal.signal(signal.SIGTERM, lambda *_: process.terminate())
-    lines = process.stdout or process.stderr
-    assert lines is not None
-    done = 0
-    with shown(ALL, quiet=False, has_stages=False):
-        for line in lines:
-            found = STEPS.search(line)
-            advance(int(found.group(1)) - done if found else 0)
-            done = int(found.group(1)) if found else done
-            say(line.rstrip("\n"), sys.stderr)
-    status = process.wait()
-    return status if status >= 0 else STOPPED - status
+    os.execve(snakemake, [snakemake, "-s", str(SNAKEFILE), "--directory", str(folder), *more, *with_profile(others)], environment)

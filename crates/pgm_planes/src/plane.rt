@@ -1,6 +1,6 @@
 ghost use Rattle.std.specs.Prelude.{◌≡◌, ℕ, List, IfOk, IfErr, IfSome};
 ghost use Rattle.insar_ports.specs.Feeding.{left_of, source_name, limit_of};
-ghost use Rattle.pgm_planes.specs.Planes.{HasMaxval, PlaneOf, SpellsPlane, IsPlaneIn, plane_of};
+ghost use Rattle.pgm_planes.specs.Planes.{HasMaxval, IsSize, PlaneOf, SpellsPlane, IsPlaneIn, plane_of};
 ghost use Rattle.pgm_planes.specs.Asking.{AsksForMore};
 ghost use Rattle.insar_ports.specs.Calls.{IsCutOff, call_of};
 ghost use Rattle.pgm_planes.specs.Reading.{Reads, plane_at};
@@ -40,6 +40,7 @@ pub fn read_plane<S: Source>(
     // All of these say what a reader of the bytes that the limit lets out gives.
     ensures reads { Reads plane_of result (call_of S.left S.faults feed.old feed.new) (plane_at role) }
     ensures maxval { IfOk result (λ plane. HasMaxval role plane.maxval) }
+    ensures sized { IfOk result (λ plane. IsSize plane.width plane.height) }
 {
     read_spelled(alloc, feed, role)
 }
@@ -53,6 +54,7 @@ fn read_spelled<S: Source>(
     ensures limit { limit_of feed.new ≡ limit_of feed.old }
     ensures reads { Reads plane_of result (call_of S.left S.faults feed.old feed.new) (plane_at role) }
     ensures maxval { IfOk result (λ plane. HasMaxval role plane.maxval) }
+    ensures sized { IfOk result (λ plane. IsSize plane.width plane.height) }
 {
     let spelling = read_magic(feed)?;
     let header = read_header(feed, role)?;

@@ -8,3 +8,4 @@ pub mod SessionAgain
 pub mod AskSession
 pub mod CallLemmas
 pub mod WrittenSession
+mod SizeLemmas

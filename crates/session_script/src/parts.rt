@@ -1,3 +1,4 @@
+ghost use Rattle.pgm_planes.specs.Planes.{IsSize};
 ghost use Rattle.std.specs.Prelude.{◌≡◌};
 
 use raster_model::Plane;
@@ -14,4 +15,5 @@ pub struct Planes {
     pub ghost cycle: { phase.maxval ≡ 65535 },
     pub ghost same_width: { (weights.width ≡ phase.width) × (mask.width ≡ phase.width) },
     pub ghost same_height: { (weights.height ≡ phase.height) × (mask.height ≡ phase.height) },
+    pub ghost sized: { IsSize phase.width phase.height },
 }

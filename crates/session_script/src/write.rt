@@ -1,4 +1,5 @@
 ghost use Rattle.insar_ports.specs.Bytes.{GainsProperPrefix, HasRisen, with_end};
+ghost use Rattle.raster_model.specs.Limits.{max_tiled_side};
 ghost use Rattle.session_script.specs.Sections.{sections_of};
 ghost use Rattle.session_script.specs.Sessions.{session_of};
 ghost use Rattle.session_script.specs.Text.{command_line, command_text, line_text, mask_row_text, mask_text, scripts_text, section_text, session_text, word_text};
@@ -41,6 +42,7 @@ fn add_session<K: Sink>(text: &mut TextWriter<K>, session: &Session)
 
 /// Adds a mask as a raw plane.
 fn add_mask<K: Sink>(text: &mut TextWriter<K>, mask: &Mask)
+    requires { mask.now.width ≤ max_tiled_side }
     ensures { Adds (view_of K.held K.faults text.old) (view_of K.held K.faults text.new) (mask_text mask.now) }
 {
     add_header(text, mask.width(), mask.height(), 1);
@@ -50,6 +52,7 @@ fn add_mask<K: Sink>(text: &mut TextWriter<K>, mask: &Mask)
 /// Adds the samples of a mask, row by row.
 #[tactic(auto, using(text_lines::proofs::AddLemmas::adds_nothing), unfolding(text_lines::specs::Text::texts_below))]
 fn add_rows<K: Sink>(text: &mut TextWriter<K>, mask: &Mask)
+    requires { mask.now.width ≤ max_tiled_side }
     ensures { Adds (view_of K.held K.faults text.old) (view_of K.held K.faults text.new) (texts_below mask.now.height (mask_row_text mask.now)) }
 {
     let mut row = [0; MAX_WIDTH];

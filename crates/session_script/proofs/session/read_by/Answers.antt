@@ -6,6 +6,7 @@ use Rattle.session_script.specs.Sessions.{frame_in}
 use Rattle.session_script.proofs.AskSession.{each_script, frame_is, made_of_parts, same_counts, unread}
 use Rattle.session_script.proofs.CallLemmas.{fails, gives, goes}
 use Rattle.session_script.proofs.WithinLemmas.{length_is}
+use Rattle.session_script.proofs.SizeLemmas.{size_fits}
 use Rattle.session_script.proofs.session.read_by.Goals as goal
 
 pub returns-in_err-planes-clause-outcome : goal.returns-in_err-planes-clause-outcome
@@ -14,6 +15,9 @@ returns-in_err-planes-clause-outcome g c =
     let o = c.in_err-planes.ensures in
     unread c.args.use_as c.args.settings.side _ c.requires.start c.requires.limit (omega (arith, f.limited, f.counted, f.ordered, o.limit)) _ c.from_residual.result c.from_residual.ensures.1
     (fails _ _ refl o.parses)
+
+pub new-tiling-requires-clause-size : goal.new-tiling-requires-clause-size
+new-tiling-requires-clause-size g c = size_fits _ _ c.in_ok-planes.planes.sized
 
 pub returns-in_err-scripts-clause-outcome : goal.returns-in_err-scripts-clause-outcome
 returns-in_err-scripts-clause-outcome g c =

@@ -3,7 +3,7 @@ ghost use Rattle.certain_parts.specs.Margins.{margin};
 ghost use Rattle.certain_parts.specs.Parts.{parts_joined};
 ghost use Rattle.joined_cells.specs.Joining.{joins};
 ghost use Rattle.raster_model.specs.Cells.{IsCertifiedTile};
-ghost use Rattle.raster_model.specs.Limits.{is_tiled_size};
+ghost use Rattle.raster_model.specs.Limits.{is_raster_size};
 ghost use Rattle.raster_model.specs.Masks.{open_at};
 ghost use Rattle.raster_model.specs.Raster.{has_open_ends, lifted};
 ghost use Rattle.raster_model.specs.Scene.{raster_of};
@@ -50,7 +50,7 @@ impl<H: Heights> EdgeTest for CertainEdges<'_, H> {
 
     fn width(&self) -> u32
         ensures width { result ≡ self.now.scene.now.phase.width }
-        ensures sized { IsTrue (is_tiled_size self.now.scene.now.phase.width self.now.scene.now.phase.height) }
+        ensures sized { IsTrue (is_raster_size self.now.scene.now.phase.width self.now.scene.now.phase.height) }
     {
         self.scene.phase.width
     }

@@ -64,7 +64,12 @@ fn verdict_on_faces(session: &Session, whole: &Whole) -> WholeVerdict
         mask: &session.first_mask,
         grid: &whole.grid,
     };
-    match check_whole(&session.scene, &session.first_mask, &values, &whole.faces) {
+    match check_whole(
+        &session.scene.sheet(),
+        &session.first_mask,
+        &values,
+        &whole.faces,
+    ) {
         Ok(counted) => verdict_on_cost(session, whole, counted),
         Err(verdict) => refused(session, whole, verdict),
     }

@@ -24,7 +24,7 @@ fn turn(rt: &impl Abort, alloc: Global) -> Scene {
 /// The surface of a raster whose pixels are all open, solved from a guess, if one is given, or else by the network.
 fn solved(rt: &impl Abort, alloc: Global, scene: &Scene, guess: Option<Guess>) -> WholeResult {
     let mask = masked(alloc, &scene.tiling, &[1; 8]).expect(rt, "a mask");
-    solve_whole_from(alloc, scene, &mask, guess).expect(rt, "memory")
+    solve_whole_from(alloc, &scene.sheet(), &mask, guess).expect(rt, "memory")
 }
 
 /// The cycles of a surface and its cost, in words.
@@ -88,7 +88,7 @@ fn the_whole_costs_less_than_its_tiles(rt: HostRuntime) {
     let phases = [49152, 16384, 12288, 49152, 20480, 61440, 40960, 20480];
     let scene = raster(&rt, alloc, &phases, &[2, 8, 5, 9, 9, 9, 6, 2]);
     let mask = masked(alloc, &scene.tiling, &[1; 8]).expect(&rt, "a mask");
-    let solved = solve_whole(&rt, alloc, &scene, &mask, 2).expect(&rt, "memory");
+    let solved = solve_whole(&rt, alloc, &scene.sheet(), &mask, 2).expect(&rt, "memory");
     let found = told(&rt, alloc, &solved);
     same(&rt, "whole", &found, "[0, 0, 0, -1, 0, -1, -1, -1] 5");
 }

@@ -8,7 +8,7 @@ ghost use Rattle.tile_board.specs.Histories.{IsComplete};
 ghost use Rattle.trial_maker.specs.Trials.{AreTrialScripts};
 
 use insar_ports::{Sink, WriteFault};
-use raster_model::{MAX_TILED_SIDE, Mask, Scene, Session, plain};
+use raster_model::{MAX_SIDE, MAX_TILED_SIDE, Mask, Scene, Session, plain};
 use text_lines::TextWriter;
 use tile_board::Board;
 
@@ -108,7 +108,7 @@ fn count_open(mask: &Mask) -> u32
 fn open_in_row(mask: &Mask, y: u32) -> u32
     requires { y < mask.now.height }
     ensures value { result ≡ count_row mask.now.width (open_at mask.now) y }
-    ensures small { result ≤ MAX_TILED_SIDE }
+    ensures small { result ≤ MAX_SIDE }
 {
     let mut count = 0;
     for x in 0..mask.width() {

@@ -6,5 +6,5 @@ use Rattle.answer_lines.proofs.trials.count_open.Given as goal
 abbrev pub invariant-loop-y : goal.invariant-loop-y
 invariant-loop-y l = record {
   counted : l.count ≡ count_grid l.mask.width l.y (open_at l.mask);
-  few : l.count ≤ 4096 * l.y;
+  few : l.count ≤ 65535 * l.y;
 }

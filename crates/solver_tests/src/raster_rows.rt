@@ -130,6 +130,7 @@ pub(crate) fn lifted(x: u32, y: u32, cycles: i8) -> Raised {
 #[test]
 fn a_residue_costs_its_lightest_edge(rt: HostRuntime) {
     let scene = read_raster(&rt, rt.alloc(), TURN).scene;
+    assert!(rt; scene.phase.width == 2 && scene.phase.height == 2);
     let mask = masked(rt.alloc(), &scene.tiling, &[1; 4]).expect(&rt, "a mask");
     let heights = lifted(0, 1, -1);
     let bottom = Edge {

@@ -48,13 +48,16 @@ less_none : (n : ℕ) → n - 0 ≡ n
 less_none n = omega arith
 
 -- what is good of a raster as one tile is so whatever its tiles
-pub good_retiled : (r : Raster) (mask : Field Bool) (k : WholeResult) → IsGoodWhole (whole_of r) mask k → IsGoodWhole r mask k
+good_retiled : (r : Raster) (mask : Field Bool) (k : WholeResult) → IsGoodWhole (whole_of r) mask k → IsGoodWhole r mask k
 unfolding whole_cost
 good_retiled r mask k g = record {
   width = g.width;
   right = record { count = g.right.count; small = g.right.small; anchored = g.right.anchored; certified = record { congruent = g.right.certified.congruent; certified = g.right.certified.certified } };
   cost = g.cost;
 }
+
+pub good_of_sheet : (s : Scene) (q : Raster) → q ≡ whole_of (raster_of s) → (mask : Field Bool) (k : WholeResult) → IsGoodWhole q mask k → IsGoodWhole (raster_of s) mask k
+good_of_sheet s q e mask k g = good_retiled (raster_of s) mask k (subst (λ (p : Raster). IsGoodWhole p mask k) e g)
 
 module _ (s : Scene) (mask : Field Bool) (k : WholeResult) (good : IsGoodWhole (raster_of s) mask k) where
   abbrev r : Raster

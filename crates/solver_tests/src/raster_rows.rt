@@ -32,8 +32,9 @@ impl Heights for Raised {
 /// Width, height and maxval of planes with the samples 5, 7 and 8, and the first reason why there is no such plane.
 const SHAPES: &str = "\
 0 0 0 = Some(Size)
-4097 1 9 = Some(Size)
-4096 1025 9 = Some(Size)
+65536 1 9 = Some(Size)
+65535 4097 9 = Some(Size)
+16384 16384 9 = Some(Count(3))
 1 0 9 = Some(Size)
 2 2 0 = Some(Maxval)
 2 2 6 = Some(Count(3))

@@ -5,7 +5,7 @@ use crate::calls::seams;
 use crate::outcomes::same;
 use crate::running::{last_of, open_desk};
 use board_desk::{Desk, Pass};
-use std::alloc::{AllocError, Global};
+use std::alloc::Global;
 use std::process::Abort;
 use std::sync::Wait;
 use worked_scenes::tile_result;
@@ -62,20 +62,20 @@ fn make_calls<R: Wait + Abort>(
 {
     for row in ROWS.lines() {
         let (call, wanted) = row.split_once(" = ").unwrap_or((row, ""));
-        let found = answer(rt, alloc, desk, analyst, worker, call).expect(rt, "memory");
+        let found = answer(rt, alloc, desk, analyst, worker, call);
         same(rt, call, &found, wanted);
     }
 }
 
 /// Does a call, which is given in words, and answers in words.
-fn answer<R: Wait>(
+fn answer<R: Wait + Abort>(
     rt: &R,
     alloc: Global,
     desk: &Desk,
     analyst: &mut Pass,
     worker: &mut Pass,
     call: &str,
-) -> Result<String, AllocError>
+) -> String
     requires analyst { IsPassOf desk.now analyst.old }
     requires named { analyst.old.analyst ≢ None }
     requires worker { IsPassOf desk.now worker.old }
@@ -93,43 +93,28 @@ fn answer<R: Wait>(
 }
 
 /// Does the analyst's next command.
-fn advanced<R: Wait>(
-    rt: &R,
-    alloc: Global,
-    desk: &Desk,
-    analyst: &mut Pass,
-) -> Result<String, AllocError>
+fn advanced<R: Wait + Abort>(rt: &R, alloc: Global, desk: &Desk, analyst: &mut Pass) -> String
     requires own { IsPassOf desk.now analyst.old }
     requires named { analyst.old.analyst ≢ None }
     ensures own { IsPassOf desk.now analyst.new }
     ensures named { analyst.new.analyst ≢ None }
 {
     let told = desk.advance(rt, alloc, analyst);
-    format!(in alloc; "{} {:?}", told.front, told.answer)
+    format!(in alloc; "{} {:?}", told.front, told.answer).expect(rt, "memory")
 }
 
 /// Claims a tile.
-fn claimed<R: Wait>(
-    rt: &R,
-    alloc: Global,
-    desk: &Desk,
-    worker: &mut Pass,
-) -> Result<String, AllocError>
+fn claimed<R: Wait + Abort>(rt: &R, alloc: Global, desk: &Desk, worker: &mut Pass) -> String
     requires { IsPassOf desk.now worker.old }
     ensures { IsPassOf desk.now worker.new }
 {
     let told = desk.claim(rt, alloc, worker);
     let tile = told.answer.map(|ticket| ticket.tile);
-    format!(in alloc; "{} {tile:?}", told.front)
+    format!(in alloc; "{} {tile:?}", told.front).expect(rt, "memory")
 }
 
 /// Gathers the results of all tiles, and tells their revision.
-fn gathered<R: Wait>(
-    rt: &R,
-    alloc: Global,
-    desk: &Desk,
-    analyst: &mut Pass,
-) -> Result<String, AllocError>
+fn gathered<R: Wait + Abort>(rt: &R, alloc: Global, desk: &Desk, analyst: &mut Pass) -> String
     requires own { IsPassOf desk.now analyst.old }
     requires named { analyst.old.analyst ≢ None }
     ensures own { IsPassOf desk.now analyst.new }
@@ -137,38 +122,33 @@ fn gathered<R: Wait>(
 {
     let told = desk.gather(rt, alloc, analyst);
     let revision = told.answer.map(|gathered| gathered.revision);
-    format!(in alloc; "{} {revision:?}", told.front)
+    format!(in alloc; "{} {revision:?}", told.front).expect(rt, "memory")
 }
 
 /// Keeps a result without departures for the stamp 1.
-fn kept<R: Wait>(
-    rt: &R,
-    alloc: Global,
-    desk: &Desk,
-    worker: &mut Pass,
-) -> Result<String, AllocError>
+fn kept<R: Wait + Abort>(rt: &R, alloc: Global, desk: &Desk, worker: &mut Pass) -> String
     requires { IsPassOf desk.now worker.old }
     ensures { IsPassOf desk.now worker.new }
 {
-    let solved = tile_result(alloc, 0, 1, &[0; 4], &[0])?;
+    let solved = tile_result(alloc, 0, 1, &[0; 4], &[0]).expect(rt, "memory");
     let told = desk.keep(rt, alloc, worker, solved);
-    format!(in alloc; "{} {:?}", told.front, told.answer)
+    format!(in alloc; "{} {:?}", told.front, told.answer).expect(rt, "memory")
 }
 
 /// Publishes this offset for the revision 1.
-fn published<R: Wait>(
+fn published<R: Wait + Abort>(
     rt: &R,
     alloc: Global,
     desk: &Desk,
     analyst: &mut Pass,
     offset: i64,
-) -> Result<String, AllocError>
+) -> String
     requires own { IsPassOf desk.now analyst.old }
     requires named { analyst.old.analyst ≢ None }
     ensures own { IsPassOf desk.now analyst.new }
     ensures named { analyst.new.analyst ≢ None }
 {
-    let seams = seams(alloc, 1, offset)?;
+    let seams = seams(rt, alloc, 1, offset);
     let told = desk.publish(rt, alloc, analyst, seams);
-    format!(in alloc; "{} {:?}", told.front, told.answer)
+    format!(in alloc; "{} {:?}", told.front, told.answer).expect(rt, "memory")
 }

@@ -23,21 +23,21 @@ const READS: u32 = 10_000;
 const TURNS: u32 = 1_000_000;
 
 /// A session of one tile that is settled, and again after each of so many edits.
-fn session(alloc: Global, edits: u32) -> Result<String, AllocError> {
-    let mut text = String::new(alloc);
-    text.push_str("P2\n2 2\n65535\n0 16384 49152 32768\nanalyst\nsettle\n")?;
+fn session(rt: &impl Abort, alloc: Global, edits: u32) -> String {
+    let start = "P2\n2 2\n65535\n0 16384 49152 32768\nanalyst\nsettle\n";
+    let mut text = String::from_str(alloc, start).expect(rt, "memory");
     for edit in 0..edits {
         let word = if edit % 2 == 0 { "mask" } else { "unmask" };
-        text.push_str(word)?;
-        text.push_str(" 0 0 0 0\nsettle\n")?;
+        text.push_str(word).expect(rt, "memory");
+        text.push_str(" 0 0 0 0\nsettle\n").expect(rt, "memory");
     }
-    text.push_str("end\n")?;
-    Ok(text)
+    text.push_str("end\n").expect(rt, "memory");
+    text
 }
 
 /// A board whose surfaces have the revisions from 0 to `edits`.
 fn edited(rt: &impl Abort, alloc: Global, edits: u32) -> Board {
-    let text = session(alloc, edits).expect(rt, "memory");
+    let text = session(rt, alloc, edits);
     let mut board = board(alloc, &text, 64).expect(rt, "a session");
     finish(alloc, &mut board).expect(rt, "memory");
     board
@@ -97,28 +97,28 @@ fn last_of(rt: &impl Abort, _writer: &ShelfWriter, readers: &mut Vec<ShelfReader
 
 /// What two readers see: nothing at first; the first one what it was told of; the second one what was placed since, also
 /// after it was told of less.
-fn story<R: Wait>(
+fn story<R: Wait + Abort>(
     rt: &R,
     alloc: Global,
     snapshots: &[Snapshot],
     writer: &mut ShelfWriter,
     first: &mut ShelfReader,
     second: &mut ShelfReader,
-) -> Result<String, AllocError>
+) -> String
     requires first { first.old.shelf ≡ writer.old.shelf }
     requires second { second.old.shelf ≡ writer.old.shelf }
 {
     let before = (revision_seen(first), revision_seen(second));
-    place_one(rt, writer, snapshots, 0)?;
-    first.learn(writer.tell()?);
-    let note = writer.tell()?;
+    place_one(rt, writer, snapshots, 0).expect(rt, "memory");
+    first.learn(writer.tell().expect(rt, "memory"));
+    let note = writer.tell().expect(rt, "memory");
     let told = revision_seen(first);
-    place_one(rt, writer, snapshots, 1)?;
+    place_one(rt, writer, snapshots, 1).expect(rt, "memory");
     let newer = revision_seen(second);
     second.learn(note);
     let after = revision_seen(second);
     let read = number_read(first);
-    format!(in alloc; "{before:?} {told:?} {newer:?} {after:?} {read}")
+    format!(in alloc; "{before:?} {told:?} {newer:?} {after:?} {read}").expect(rt, "memory")
 }
 
 #[test]
@@ -129,9 +129,7 @@ fn a_reader_never_goes_back(rt: HostRuntime) {
     let mut first = last_of(&rt, &writer, &mut readers);
     let mut second = last_of(&rt, &writer, &mut readers);
     let snapshots = board.snapshots();
-    let told = story(&rt, alloc, snapshots, &mut writer, &mut first, &mut second).expect(
-        &rt, "memory",
-    );
+    let told = story(&rt, alloc, snapshots, &mut writer, &mut first, &mut second);
     writer.close(&rt);
     same(
         &rt,

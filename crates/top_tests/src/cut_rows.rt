@@ -29,25 +29,33 @@ const CUTS: &str = "\
 34|69|3|input fault 14 no end;
 70|70|0|!2 2;tile 64;rule least;revised 1 mask 0 0 0 0;kept 0 1;published 1 1;costs 0 0;ncols 2;nrows 2;%~ 16384;49152 32768;faces 0 0;flows;shown 1 1;end;";
 
+/// Cuts the session after so many bytes.
+fn try_cut<R: Alloc<A = Global> + Threads + Wait + Sync + Abort>(
+    rt: &R,
+    count: usize,
+    status: u8,
+    pattern: &str,
+) {
+    let wanted = Wanted {
+        status,
+        written: numbered(rt, rt.alloc(), pattern, count),
+        gained: 0,
+    };
+    let bytes = &SESSION[..count.min(SESSION.len())];
+    try_twice(rt, "unwrap", bytes, NOTHING, &wanted);
+}
+
 /// Cuts the session as a row says, and answers how often.
 fn try_cuts<R: Alloc<A = Global> + Threads + Wait + Sync + Abort>(rt: &R, row: &str) -> usize {
     let mut fields = row.split('|');
     let first = field(&mut fields).parse::<usize>().expect(rt, "a number");
     let last = field(&mut fields).parse::<usize>().expect(rt, "a number");
-    let last = last.min(SESSION.len());
     let status = field(&mut fields).parse::<u8>().expect(rt, "a status");
-    let pattern = spelled(rt.alloc(), field(&mut fields)).expect(rt, "memory");
-    let mut cuts = 0usize;
-    for count in first..last + 1 {
-        let wanted = Wanted {
-            status,
-            written: numbered(rt, rt.alloc(), &pattern, count),
-            gained: 0,
-        };
-        try_twice(rt, "unwrap", &SESSION[..count], NOTHING, &wanted);
-        cuts = cuts.saturating_add(1);
+    let pattern = spelled(rt, rt.alloc(), field(&mut fields));
+    for count in first..last.saturating_add(1) {
+        try_cut(rt, count, status, &pattern);
     }
-    cuts
+    last.saturating_add(1).saturating_sub(first)
 }
 
 /// A pattern with a number in the place of each `#`.

@@ -1,7 +1,8 @@
 use crate::running::{Ended, Failing, run};
 use crate::top_rows::{is_one_of, spelled};
-use std::alloc::{AllocError, Global};
+use std::alloc::Global;
 use std::process::Abort;
+use std::str::Split;
 use std::sync::Wait;
 use std::thread::Threads;
 use tile_workers::OpenGate;
@@ -140,15 +141,19 @@ pub fn try_twice<R: Alloc<A = Global> + Threads + Wait + Sync + Abort>(
 }
 
 /// The bytes of a row.
-fn bytes_of(alloc: Global, text: &str) -> Result<Vec<u8>, AllocError> {
+fn bytes_of(rt: &impl Abort, alloc: Global, text: &str) -> Vec<u8> {
     let mut bytes = Vec::new(alloc);
     for (place, piece) in text.split('@').enumerate() {
         if place > 0 {
-            bytes.extend_from_slice(b"\x00\x00\x4e\x20\x9c\x40\xea\x60")?;
+            let line = b"\x00\x00\x4e\x20\x9c\x40\xea\x60";
+            bytes.extend_from_slice(line).expect(rt, "memory");
         }
-        bytes.extend_from_slice(spelled(alloc, piece)?.as_bytes())?;
+        let piece = spelled(rt, alloc, piece);
+        bytes
+            .extend_from_slice(piece.as_bytes())
+            .expect(rt, "memory");
     }
-    Ok(bytes)
+    bytes
 }
 
 /// What is disturbed by a row at one of its numbers.
@@ -177,6 +182,29 @@ fn filled(rt: &impl Abort, alloc: Global, row: &str) -> String {
     row.replace(alloc, "&", REPORT).expect(rt, "memory")
 }
 
+/// Tries a row at one of its numbers.
+fn try_at<R: Alloc<A = Global> + Threads + Wait + Sync + Abort>(
+    rt: &R,
+    what: &str,
+    number: u32,
+    words: &str,
+    bytes: &[u8],
+    wanted: &mut Wanted,
+) {
+    let before = if what == "put" { 1 } else { 0 };
+    wanted.gained = number.saturating_sub(before) as usize;
+    try_twice(rt, words, bytes, failing_at(what, &[number]), wanted);
+}
+
+/// How the next two fields of a row say that a run ends.
+fn next_wanted(rt: &impl Abort, alloc: Global, fields: &mut Split<'_, char>) -> Wanted {
+    Wanted {
+        status: field(fields).parse::<u8>().expect(rt, "a status"),
+        written: spelled(rt, alloc, field(fields)),
+        gained: 0,
+    }
+}
+
 /// Tries a row at each of its numbers.
 fn try_row<R: Alloc<A = Global> + Threads + Wait + Sync + Abort>(rt: &R, row: &str) {
     let row = filled(rt, rt.alloc(), row);
@@ -185,18 +213,10 @@ fn try_row<R: Alloc<A = Global> + Threads + Wait + Sync + Abort>(rt: &R, row: &s
     let first = field(&mut fields).parse::<u32>().expect(rt, "a number");
     let last = field(&mut fields).parse::<u32>().expect(rt, "a number");
     let words = field(&mut fields);
-    let bytes = bytes_of(rt.alloc(), field(&mut fields)).expect(rt, "memory");
-    let status = field(&mut fields).parse::<u8>().expect(rt, "a status");
-    let written = spelled(rt.alloc(), field(&mut fields)).expect(rt, "memory");
-    let mut wanted = Wanted {
-        status,
-        written,
-        gained: 0,
-    };
+    let bytes = bytes_of(rt, rt.alloc(), field(&mut fields));
+    let mut wanted = next_wanted(rt, rt.alloc(), &mut fields);
     for number in first..last.saturating_add(1) {
-        let before = if what == "put" { 1 } else { 0 };
-        wanted.gained = number.saturating_sub(before) as usize;
-        try_twice(rt, words, &bytes, failing_at(what, &[number]), &wanted);
+        try_at(rt, what, number, words, &bytes, &mut wanted);
     }
 }
 

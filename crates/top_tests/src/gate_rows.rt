@@ -76,15 +76,8 @@ impl Gate for Second {
     }
 }
 
-/// While the only worker of one analyst is held, the other analyst goes on. In any order of the two the report has both
-/// edits, a publication or a find of one for each settle command, and both looks; and the check accepts it.
-#[test]
-fn analysts_run_at_once(rt: HostRuntime) {
-    let gate = Second {
-        entries: AtomicU64::new(0),
-        missed: AtomicBool::new(false),
-    };
-    let session = "P2 4 1 65535 0 40000 14464 54464
+/// Two analysts, each of whom masks one end of a line and settles.
+const SESSION: &str = "P2 4 1 65535 0 40000 14464 54464
 analyst
 mask 3 0 3 0
 settle
@@ -95,33 +88,33 @@ settle
 show
 end
 ";
-    let done = run(
-        &rt,
-        "unwrap --tile 2 --workers 1",
-        session.as_bytes(),
-        9,
-        &NOTHING,
-        &gate,
-    );
-    assert!(rt; done.status == 0);
+
+/// Whether a report has both edits, a publication or a find of one for each settle command, both looks, and a surface without
+/// both ends.
+fn has_both(report: &str) -> bool {
+    let published = lines_of(report, "published ");
+    let row = "-9223372036854775808 40000 14464 -9223372036854775808";
+    lines_of(report, "revised ") == 2
+        && lines_of(report, "shown ") == 2
+        && published.saturating_add(lines_of(report, "settled ")) == 2
+        && lines_of(report, row) > 0
+}
+
+/// While the only worker of one analyst is held, the other analyst goes on. In any order of the two the report has what both
+/// did, and the check accepts it.
+#[test]
+fn analysts_run_at_once(rt: HostRuntime) {
+    let gate = Second {
+        entries: AtomicU64::new(0),
+        missed: AtomicBool::new(false),
+    };
+    let (words, bytes) = ("unwrap --tile 2 --workers 1", SESSION.as_bytes());
+    let done = run(&rt, words, bytes, 9, &NOTHING, &gate);
+    assert!(rt; done.status == 0 && has_both(&done.text));
     assert!(rt; gate.entries.load(Ordering::SeqCst) > 1);
     assert!(rt; !gate.missed.load(Ordering::SeqCst));
-    assert!(rt; lines_of(&done.text, "revised ") == 2 && lines_of(&done.text, "shown ") == 2);
-    let published = lines_of(&done.text, "published ");
-    assert_eq!(rt;
-        published.saturating_add(lines_of(&done.text, "settled ")),
-        2
-    );
-    let row = "-9223372036854775808 40000 14464 -9223372036854775808";
-    assert!(rt; lines_of(&done.text, row) > 0);
-    let both = format!(in rt.alloc(); "{session}{}", done.text).expect(&rt, "memory");
-    let checked = run(
-        &rt,
-        "check --tile 2",
-        both.as_bytes(),
-        9,
-        &NOTHING,
-        &OpenGate,
-    );
+    let both = format!(in rt.alloc(); "{SESSION}{}", done.text).expect(&rt, "memory");
+    let (words, bytes) = ("check --tile 2", both.as_bytes());
+    let checked = run(&rt, words, bytes, 9, &NOTHING, &OpenGate);
     assert!(rt; checked.status == 0 && checked.text.as_str() == "accepted\n");
 }

@@ -1,5 +1,7 @@
+ghost use Rattle.std.specs.Prelude.{◌<◌};
+
 use crate::running::{NOTHING, lines_of, run};
-use std::alloc::{AllocError, Global};
+use std::alloc::Global;
 use std::process::Abort;
 use std::str::Split;
 use std::sync::Wait;
@@ -8,42 +10,57 @@ use tile_workers::OpenGate;
 use worked_scenes::{field, number};
 
 /// A raw phase plane of that width and height, which rises by 300 to the right and by 700 downwards, and scripts.
-fn slope(alloc: Global, width: u32, height: u32, scripts: &str) -> Result<Vec<u8>, AllocError> {
-    let mut bytes = Vec::new(alloc);
-    bytes.extend_from_slice(format!(in alloc; "P5\n{width} {height}\n65535\n")?.as_bytes())?;
+fn slope(rt: &impl Abort, alloc: Global, width: u32, height: u32, scripts: &str) -> Vec<u8> {
+    let head = format!(in alloc; "P5\n{width} {height}\n65535\n").expect(rt, "memory");
+    let mut bytes = head.into_bytes();
     for y in 0..height {
-        for x in 0..width {
-            let value = (300 * u64::from(x) + 700 * u64::from(y)) % 65536;
-            bytes.extend_from_slice(&(value as u16).to_be_bytes())?;
-        }
+        add_row(rt, width, y, &mut bytes);
     }
-    bytes.extend_from_slice(scripts.as_bytes())?;
-    Ok(bytes)
+    bytes
+        .extend_from_slice(scripts.as_bytes())
+        .expect(rt, "memory");
+    bytes
+}
+
+/// Adds a row of the slope.
+fn add_row(rt: &impl Abort, width: u32, y: u32, bytes: &mut Vec<u8>) {
+    for x in 0..width {
+        let value = (300 * u64::from(x) + 700 * u64::from(y)) % 65536;
+        let value = (value as u16).to_be_bytes();
+        bytes.extend_from_slice(&value).expect(rt, "memory");
+    }
 }
 
 /// The grid of a slope of 1024 by 1024 from its size on: it is its own surface.
-fn grid(alloc: Global) -> Result<String, AllocError> {
-    let mut text = String::new(alloc);
-    text.push_str(
-        "\npublished 1 0\ncosts 0 0\nncols 1024\nnrows 1024\nxllcorner 0\nyllcorner 0\ncellsize 1\nNODATA_value -9223372036854775808\n",
-    )?;
+fn grid(rt: &impl Abort, alloc: Global) -> String {
+    let head =
+        "\npublished 1 0\ncosts 0 0\nncols 1024\nnrows 1024\nxllcorner 0\nyllcorner 0\ncellsize 1\nNODATA_value -9223372036854775808\n";
+    let mut text = String::from_str(alloc, head).expect(rt, "memory");
     for y in 0..1024u64 {
-        for x in 0..1024u64 {
-            let value = 300 * x + 700 * y;
-            let end = if x == 1023 { "\n" } else { " " };
-            text.push_str(format!(in alloc; "{value}{end}")?.as_str())?;
-        }
+        add_values(rt, alloc, y, &mut text);
     }
-    Ok(text)
+    text
+}
+
+/// Adds the values of a row of that grid.
+fn add_values(rt: &impl Abort, alloc: Global, y: u64, text: &mut String)
+    requires { y < 1024 }
+{
+    for x in 0..1024u64 {
+        let value = 300 * x + 700 * y;
+        let end = if x == 1023 { "\n" } else { " " };
+        let value = format!(in alloc; "{value}{end}").expect(rt, "memory");
+        text.push_str(&value).expect(rt, "memory");
+    }
 }
 
 /// A slope of 1024 by 1024 pixels. Before its grid come the lines of 256 kept tiles, in any order.
 #[test]
 fn a_large_slope_is_unwrapped(rt: HostRuntime) {
-    let bytes = slope(rt.alloc(), 1024, 1024, "").expect(&rt, "memory");
+    let bytes = slope(&rt, rt.alloc(), 1024, 1024, "");
     let done = run(&rt, "unwrap", &bytes, 65536, &NOTHING, &OpenGate);
     assert!(rt; done.status == 0 && lines_of(&done.text, "kept ") == 256);
-    let grid = grid(rt.alloc()).expect(&rt, "memory");
+    let grid = grid(&rt, rt.alloc());
     assert!(rt; done.text.split_once(grid.as_str()).is_some());
 }
 
@@ -89,7 +106,7 @@ end
 /// Their session on a raster of 256 by 256.
 #[test]
 fn two_analysts_finish_a_session(rt: HostRuntime) {
-    let bytes = slope(rt.alloc(), 256, 256, SCRIPTS).expect(&rt, "memory");
+    let bytes = slope(&rt, rt.alloc(), 256, 256, SCRIPTS);
     let done = run(&rt, "unwrap", &bytes, 65536, &NOTHING, &OpenGate);
     assert!(rt; done.status == 0 && done.text.ends_with(" 20\nend\n"));
     assert!(rt; lines_of(&done.text, "revised ") == 20 && lines_of(&done.text, "shown ") == 2);
@@ -107,23 +124,24 @@ unwrap --tile 2|mask 0 0 0 0|17||input fault 16 edits line 18
 unwrap|show|4097||input fault 12 commands line 4098";
 
 /// The script of the next three fields of a row.
-fn script(alloc: Global, fields: &mut Split<'_, char>) -> Result<String, AllocError> {
+fn script(rt: &impl Abort, alloc: Global, fields: &mut Split<'_, char>) -> String {
     let (command, count) = (field(fields), number(fields));
-    let mut script = String::from_str(alloc, "analyst\n")?;
+    let mut script = String::from_str(alloc, "analyst\n").expect(rt, "memory");
     for _command in 0..count {
-        script.push_str(command)?;
-        script.push('\n')?;
+        script.push_str(command).expect(rt, "memory");
+        script.push('\n').expect(rt, "memory");
     }
-    script.push_str(&field(fields).replace(alloc, ";", "\n")?)?;
-    Ok(script)
+    let rest = field(fields).replace(alloc, ";", "\n").expect(rt, "memory");
+    script.push_str(&rest).expect(rt, "memory");
+    script
 }
 
 /// Runs a row's words over a raster of 4096 by 1024 pixels and its script.
 fn is_refused<R: Alloc<A = Global> + Threads + Wait + Sync + Abort>(rt: &R, row: &str) {
     let mut fields = row.split('|');
     let words = field(&mut fields);
-    let script = script(rt.alloc(), &mut fields).expect(rt, "memory");
-    let bytes = slope(rt.alloc(), 4096, 1024, &script).expect(rt, "memory");
+    let script = script(rt, rt.alloc(), &mut fields);
+    let bytes = slope(rt, rt.alloc(), 4096, 1024, &script);
     let done = run(rt, words, &bytes, 65536, &NOTHING, &OpenGate);
     let line = done.line.lines().next().unwrap_or("");
     assert!(rt; done.status == 3 && line == field(&mut fields), "{row}");

@@ -1,9 +1,10 @@
-use crate::running::{NOTHING, run};
-use std::alloc::{AllocError, Global};
+use crate::running::{Ended, NOTHING, run};
+use std::alloc::Global;
 use std::process::Abort;
 use std::sync::Wait;
 use std::thread::Threads;
 use tile_workers::OpenGate;
+use worked_scenes::field;
 
 /// A row has four fields: words, bytes, status, and what is written, which is the sink's text at status 0 and 1 or else
 /// the line to `diag`. In a field `;` is LF, `.` is the byte 0, `~` is the NODATA value, `%` stands for the four
@@ -298,23 +299,30 @@ check-whole --workers 2||2|words refused;
 check-whole --rule max||2|words refused;
 ";
 
+/// What a letter of the table stands for, if for more than itself.
+fn meaning(letter: char) -> Option<&'static str> {
+    match letter {
+        ';' => Some("\n"),
+        '.' => Some("\0"),
+        '~' => Some("-9223372036854775808"),
+        '%' => Some("xllcorner 0\nyllcorner 0\ncellsize 1\nNODATA_value -9223372036854775808\n"),
+        '!' => Some("insar-report 1\nsize "),
+        '^' => Some("insar-whole 1\nsize "),
+        _ => None,
+    }
+}
+
 /// What a text of the table stands for.
-pub fn spelled(alloc: Global, text: &str) -> Result<String, AllocError> {
+pub fn spelled(rt: &impl Abort, alloc: Global, text: &str) -> String {
     let mut whole = String::new(alloc);
     for letter in text.chars() {
-        match letter {
-            ';' => whole.push('\n')?,
-            '.' => whole.push('\0')?,
-            '~' => whole.push_str("-9223372036854775808")?,
-            '%' => whole.push_str(
-                "xllcorner 0\nyllcorner 0\ncellsize 1\nNODATA_value -9223372036854775808\n",
-            )?,
-            '!' => whole.push_str("insar-report 1\nsize ")?,
-            '^' => whole.push_str("insar-whole 1\nsize ")?,
-            _ => whole.push(letter)?,
-        }
+        let added = match meaning(letter) {
+            Some(piece) => whole.push_str(piece),
+            None => whole.push(letter),
+        };
+        added.expect(rt, "memory");
     }
-    Ok(whole)
+    whole
 }
 
 /// Whether a text is the pieces of a pattern, with any text at each `*`.
@@ -339,28 +347,29 @@ pub fn is_one_of(text: &str, patterns: &str) -> bool {
     false
 }
 
+/// Whether a run wrote this: to the sink at status 0 and 1, or else the line to `diag`.
+fn has_written(done: &Ended, written: &str) -> bool {
+    if done.status < 2 {
+        done.line.is_empty() && is_one_of(&done.text, written)
+    } else {
+        done.text.is_empty() && done.line.as_str() == written
+    }
+}
+
 /// Runs a row, if the line has one: then its words and bytes give its status and what it writes.
 pub fn judge<R: Alloc<A = Global> + Threads + Wait + Sync + Abort>(rt: &R, row: &str) -> u32 {
-    let mut fields = row.split('|');
-    let (Some(words), Some(input), Some(status), Some(written)) = (
-        fields.next(),
-        fields.next(),
-        fields.next(),
-        fields.next(),
-    ) else {
+    let Some((words, rest)) = row.split_once('|') else {
         return 0;
     };
-    let bytes = spelled(rt.alloc(), input).expect(rt, "memory");
+    let mut fields = rest.split('|');
+    let bytes = spelled(rt, rt.alloc(), field(&mut fields));
     let done = run(rt, words, bytes.as_bytes(), 7, &NOTHING, &OpenGate);
-    let status = status.parse::<u8>().expect(rt, "a status");
-    assert!(rt; done.status == status, "{row}");
-    let written = spelled(rt.alloc(), written).expect(rt, "memory");
-    let good = if done.status < 2 {
-        done.line.is_empty() && is_one_of(&done.text, &written)
-    } else {
-        done.text.is_empty() && done.line.as_str() == written.as_str()
-    };
-    assert!(rt; good, "{row}");
+    let status = field(&mut fields).parse::<u8>().expect(rt, "a status");
+    let written = spelled(rt, rt.alloc(), field(&mut fields));
+    assert!(rt;
+        done.status == status && has_written(&done, &written),
+        "{row}"
+    );
     1
 }
 

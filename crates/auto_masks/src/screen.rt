@@ -1,5 +1,6 @@
 ghost use Rattle.auto_masks.specs.Screened.{AreScreenTerms, is_enough as is_enough_by, max_near};
 ghost use Rattle.auto_masks.specs.declared.terms.ScreenTerms.{ScreenTerms as Terms};
+ghost use Rattle.raster_model.specs.declared.limits.TheConstants.{MAX_WEIGHT};
 ghost use Rattle.std.specs.Prelude.{◌≡◌, ◌<◌, ◌≤◌, ℕ, Bool};
 
 use crate::extent::Extent;
@@ -21,8 +22,8 @@ pub struct Screen {
     terms: ScreenTerms,
     is_enough: EnoughTest,
     ghost ranged: { AreScreenTerms terms },
-    ghost called: { (weight count : ℕ) → weight < 65536 → count ≤ max_near → EnoughTest.pre is_enough weight count },
-    ghost answered: { (weight count : ℕ) (answer : Bool) → weight < 65536 → count ≤ max_near → EnoughTest.post is_enough weight count answer → answer ≡ is_enough_by terms weight count },
+    ghost called: { (weight count : ℕ) → weight ≤ MAX_WEIGHT → count ≤ max_near → EnoughTest.pre is_enough weight count },
+    ghost answered: { (weight count : ℕ) (answer : Bool) → weight ≤ MAX_WEIGHT → count ≤ max_near → EnoughTest.post is_enough weight count answer → answer ≡ is_enough_by terms weight count },
 }
 
 impl Screen {
@@ -36,8 +37,8 @@ impl Screen {
     /// enough for them.
     pub fn new(terms: ScreenTerms, is_enough: EnoughTest) -> Screen
         requires ranged { AreScreenTerms terms }
-        requires called { (weight count : ℕ) → weight < 65536 → count ≤ max_near → EnoughTest.pre is_enough weight count }
-        requires answered { (weight count : ℕ) (answer : Bool) → weight < 65536 → count ≤ max_near → EnoughTest.post is_enough weight count answer → answer ≡ is_enough_by terms weight count }
+        requires called { (weight count : ℕ) → weight ≤ MAX_WEIGHT → count ≤ max_near → EnoughTest.pre is_enough weight count }
+        requires answered { (weight count : ℕ) (answer : Bool) → weight ≤ MAX_WEIGHT → count ≤ max_near → EnoughTest.post is_enough weight count answer → answer ≡ is_enough_by terms weight count }
         ensures { result.terms ≡ terms }
     {
         Screen { terms, is_enough }

@@ -1,5 +1,6 @@
 ghost use Rattle.displacement.specs.Blocks.{block_count, block_sum, blocks_of};
 ghost use Rattle.displacement.specs.Displacements.{IsBlockSide};
+ghost use Rattle.displacement.specs.declared.sight.TheConstants.{MAX_BLOCK, MAX_BLOCK_PIXELS};
 ghost use Rattle.displacement.specs.Steps.{IsListTotal, MayBeSum};
 ghost use Rattle.grid_writer.specs.Grids.{grid_of};
 ghost use Rattle.raster_model.specs.Limits.{max_tiled_side};
@@ -10,7 +11,7 @@ use grid_writer::Grid;
 
 /// The total of a piece of a row.
 fn piece_total(values: &[i64]) -> Total
-    requires { length values.now ≤ 64 }
+    requires { length values.now ≤ MAX_BLOCK }
     ensures { IsListTotal values.now (length values.now) result.count result.sum }
 {
     let mut total = Total::NONE;
@@ -40,7 +41,7 @@ pub(crate) fn block_total(grid: &Grid, block: u32, column: u32, row: u32) -> Tot
     requires along { row < blocks_of block grid.now.height }
     ensures count { result.count ≡ block_count (grid_of grid.now) block column row }
     ensures sum { result.sum ≡ block_sum (grid_of grid.now) block column row }
-    ensures few { result.count ≤ 4096 }
+    ensures few { result.count ≤ MAX_BLOCK_PIXELS }
     ensures within { MayBeSum result.count result.sum }
 {
     let width = grid.width as usize;

@@ -1,4 +1,5 @@
 ghost use Rattle.displacement.specs.Displacements.{IsMean, IsTooWide, IsWavelength};
+ghost use Rattle.displacement.specs.declared.sight.TheConstants.{MAX_BLOCK, MAX_BLOCK_PIXELS};
 ghost use Rattle.displacement.specs.Steps.{IsFloor, MayBeSum};
 ghost use Rattle.grid_writer.specs.Values.{CanStand, is_value};
 ghost use Rattle.std.specs.Prelude.{◌≡◌, ◌+◌, ◌<◌, ◌≤◌, pos, ◌+ℤ◌, ◌-ℤ◌, ◌*ℤ◌, ◌<ℤ◌, MatchOption};
@@ -30,7 +31,7 @@ impl Total {
 
     /// The total with one pixel more.
     pub(crate) fn plus(self, value: i64) -> Total
-        requires few { self.count < 64 }
+        requires few { self.count < MAX_BLOCK }
         requires within { MayBeSum self.count self.sum }
         ensures count { result.count ≡ self.count + one_if (is_value value) }
         ensures sum { result.sum ≡ self.sum +ℤ where_true (is_value value) value }
@@ -46,7 +47,7 @@ impl Total {
 
     /// The total of these pixels and others.
     pub(crate) fn join(self, other: Total) -> Total
-        requires few { self.count + other.count ≤ 4096 }
+        requires few { self.count + other.count ≤ MAX_BLOCK_PIXELS }
         requires within { MayBeSum self.count self.sum }
         requires beside { MayBeSum other.count other.sum }
         ensures count { result.count ≡ self.count + other.count }
@@ -62,7 +63,7 @@ impl Total {
     /// not fit 64 bits or is the NODATA value.
     pub(crate) fn displacement(self, reference: i64, wavelength: u32) -> Option<i64>
         requires some { 0 < self.count }
-        requires few { self.count ≤ 4096 }
+        requires few { self.count ≤ MAX_BLOCK_PIXELS }
         requires within { MayBeSum self.count self.sum }
         requires wave { IsWavelength wavelength }
         ensures { MatchOption result (IsTooWide wavelength self.count (self.sum -ℤ pos self.count *ℤ reference)) (λ d. IsMean wavelength self.count (self.sum -ℤ pos self.count *ℤ reference) d × CanStand d) }

@@ -20,6 +20,9 @@ use clap::ArgMatches;
 use raster_model::{DEFAULT_TILE_SIDE, DEFAULT_WORKERS, MAX_TILED_PIXELS, RuleKind, Terms};
 use std::alloc::Global;
 
+/// The greatest number that stands for a slope.
+const MAX_SLOPE_NUMBER: u32 = 65_535;
+
 /// What words ask for, as the stated command reads them. Words are refused if that command refuses them, a call for
 /// help too, if they name a rule that there is not, and if they ask for a test session with too many pixels.
 pub fn read_words(alloc: Global, words: &[&str]) -> Result<Request, WordsFault>
@@ -217,7 +220,7 @@ fn terms_told(found: &ArgMatches<'_>) -> Terms
 
 /// The slope that matches give for a name.
 fn slope_told(found: &ArgMatches<'_>, name: &str) -> i32
-    requires { HasNumber name.now 0 65535 (rows_of (found_of found.now)) }
+    requires { HasNumber name.now 0 MAX_SLOPE_NUMBER (rows_of (found_of found.now)) }
     ensures told { slope_asked name.now (rows_of (found_of found.now)) ≡ Some result }
     ensures slope { IsSlope result }
 {
@@ -226,7 +229,7 @@ fn slope_told(found: &ArgMatches<'_>, name: &str) -> i32
 
 /// The slope for which a number from 0 to 65535 stands: itself, or from 32768 on itself less 65536.
 fn slope_for(number: u32) -> i32
-    requires { number ≤ 65535 }
+    requires { number ≤ MAX_SLOPE_NUMBER }
     ensures told { result ≡ slope_by number }
     ensures slope { IsSlope result }
 {

@@ -9,6 +9,12 @@ const MULTIPLIER: u64 = 6_364_136_223_846_793_005;
 /// What each step adds.
 const INCREMENT: u64 = 1_442_695_040_888_963_407;
 
+/// The greatest weight of a pixel.
+pub(crate) const MAX_TRIAL_WEIGHT: u16 = 256;
+
+/// How many weights there are.
+const WEIGHTS: u64 = 256;
+
 /// The number after this one.
 pub fn next(state: u64) -> u64
     ensures { result ≡ next_of state }
@@ -26,12 +32,12 @@ pub fn phase_of(state: u64, x: u32, y: u32) -> u16
     ((700 * x + 300 * y + noise) % 65536) as u16
 }
 
-/// The weight of a pixel by its number, from 1 to 256.
+/// The weight of a pixel by its number, from 1 to [`MAX_TRIAL_WEIGHT`].
 pub fn weight_of(state: u64) -> u16
     ensures value { result ≡ weight_is state }
-    ensures small { result ≤ 256 }
+    ensures small { result ≤ MAX_TRIAL_WEIGHT }
 {
-    1 + ((state >> 32) % 256) as u16
+    1 + ((state >> 32) % WEIGHTS) as u16
 }
 
 /// The mask's sample of a pixel by its number: 0 if it is masked, and otherwise 1.

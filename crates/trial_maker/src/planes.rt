@@ -2,6 +2,7 @@ ghost use Rattle.raster_model.specs.Limits.{is_tiled_size};
 ghost use Rattle.std.specs.Prelude.{◌≡◌, IfOk, IsTrue};
 ghost use Rattle.trial_maker.specs.Drawn.{AreDrawnPlanes};
 
+use crate::numbers::MAX_TRIAL_WEIGHT;
 use crate::samples::{Samples, draw};
 use raster_model::Plane;
 use std::alloc::{AllocError, Global};
@@ -37,7 +38,7 @@ pub fn draw_planes(alloc: Global, seed: u64, width: u32, height: u32) -> Result<
         weights: Plane {
             width,
             height,
-            maxval: 256,
+            maxval: MAX_TRIAL_WEIGHT,
             samples: weights,
         },
         mask: Plane {

@@ -1,6 +1,6 @@
 -- What is read of bytes after which more come is read of all of them too, where none was asked for.
 use Rattle.std.proofs.Common.{◌≡◌, ℕ, zero, suc, ◌+◌, ◌*◌, ◌-◌, Bool, true, false, ◌⊎◌, List, [], ◌∷◌, ◌++◌, Option, Some, None, Ok, Err, refl, ap, inl, inr, ltb, if◌then◌else◌}
-use Rattle.pgm_planes.proofs.Words.{scan_at, Role, PlaneFault, Magic, Form, Short, Spelling, Raw, Plain, SampleForm, Narrow, Wide, Digits, is_space, is_digit, Reading, Reader, ◌⟫◌, ◌▸◌, pure, here, asks, nothing, SampleAbove, on_step, filling_end, end_or, sight_at, byte_at, octet_at, fails, or_fails, spelling_of, magic_at, space_at, numeral_at, field_at, HeaderOf, header_break, unless_broken, header_at, judged_at, form_of, spelled_sample_at, samples_at, end_at, end_of, raster_at, plane_at}
+use Rattle.pgm_planes.proofs.Words.{scan_at, Sought, PlaneFault, Magic, Form, Short, Spelling, Raw, Plain, SampleForm, Narrow, Wide, Digits, is_space, is_digit, Reading, Reader, ◌⟫◌, ◌▸◌, pure, here, asks, nothing, SampleAbove, on_step, filling_end, end_or, sight_at, byte_at, octet_at, fails, or_fails, spelling_of, magic_at, space_at, numeral_at, field_at, HeaderOf, header_break, unless_broken, header_at, judged_at, form_of, spelled_sample_at, samples_at, end_at, end_of, raster_at, sought_at}
 use Rattle.std.proofs.lemmas.List.{append-nil}
 use Rattle.pgm_planes.proofs.HeaderLemmas.{done}
 
@@ -103,9 +103,9 @@ field_is_far : Far field_at
 unfolding field_at
 field_is_far = far_then space_is_far (λ _. far_then (scan_is_far _ filling_end_far false) (λ _. far_then far_here (λ place. far_then (number_is_far (Form place)) (λ n. far_pure (n, place)))))
 
-header_is_far : (role : Role) → Far (header_at role)
+header_is_far : (sought : Sought) → Far (header_at sought)
 unfolding header_at
-header_is_far role = far_then field_is_far (λ w. far_then field_is_far (λ k. far_then field_is_far (λ m. far_then space_is_far (λ _. far_unless (header_break role w.0 k.0 m.0 m.1) (record { width = w.0; height = k.0; maxval = m.0 })))))
+header_is_far sought = far_then field_is_far (λ w. far_then field_is_far (λ k. far_then field_is_far (λ m. far_then space_is_far (λ _. far_unless (header_break sought w.0 k.0 m.0 m.1) (record { width = w.0; height = k.0; maxval = m.0 })))))
 
 judged_is_far : (maxval k v : ℕ) → Far (judged_at maxval k v)
 judged_is_far maxval k v = far_if (ltb maxval v) (far_fails (SampleAbove k v)) (far_pure v)
@@ -127,12 +127,12 @@ unfolding end_at
 end_is_far Raw vs = far_pure vs
 end_is_far Plain vs = far_then (far_then far_here (λ place. far_then {p = sight_at} (record { far = sight_far }) (end_or_far place))) (λ _. far_pure vs)
 
-plane_is_far : (role : Role) → Far (plane_at role)
-unfolding plane_at raster_at
-plane_is_far role = far_then magic_is_far (λ spelling. far_then (header_is_far role) (λ k. far_then
+plane_is_far : (sought : Sought) → Far (sought_at sought)
+unfolding sought_at raster_at
+plane_is_far sought = far_then magic_is_far (λ spelling. far_then (header_is_far sought) (λ k. far_then
     (far_then {p = samples_at (form_of spelling k.maxval) k.maxval (k.width * k.height) 0} (record { far = λ h. samples_far h (form_of spelling k.maxval) k.maxval (k.width * k.height) 0 }) (end_is_far spelling))
     (λ vs. far_pure (record { width = k.width; height = k.height; maxval = k.maxval; samples = vs }))))
 
 -- what is read of a plane, where nothing is asked for, is read of all bytes
-pub plane_far : (h : List ℕ) (role : Role) (at : ℕ) (bytes : List ℕ) → Holds h (plane_at role true at bytes) (plane_at role false at (bytes ++ h))
-plane_far h role at bytes = (plane_is_far role).far h at bytes
+pub plane_far : (h : List ℕ) (sought : Sought) (at : ℕ) (bytes : List ℕ) → Holds h (sought_at sought true at bytes) (sought_at sought false at (bytes ++ h))
+plane_far h sought at bytes = (plane_is_far sought).far h at bytes

@@ -1,6 +1,6 @@
 -- A header that is spelled so is read, and one that breaks breaks there.
 use Rattle.std.proofs.Common.{◌≡◌, ℕ, Bool, ◌+◌, ◌≤◌, true, false, List, [], ◌∷◌, ◌++◌, length, refl, sym, ap, ◌∙◌, append_assoc, arith, inl, inr}
-use Rattle.pgm_planes.proofs.Words.{Reading, length-append, Role, Form, is_space, is_digit, is_gap, begins, is_number, capped_number, AreNumbers, breaks, field_at, header_break, unless_broken, header_at}
+use Rattle.pgm_planes.proofs.Words.{Reading, length-append, Sought, Form, is_space, is_digit, is_gap, begins, is_number, capped_number, AreNumbers, breaks, field_at, header_break, unless_broken, header_at}
 use Rattle.pgm_planes.proofs.HeaderLemmas.{done, seen, seen_begun, seen_then, seen_behind, space_taken}
 use Rattle.pgm_planes.proofs.FieldLemmas.{spaced, gap_spaced, IsStuck, field_again, field_break_again, no_space}
 use Rattle.pgm_planes.proofs.NumberLemmas.{numbers_begin, header_record}
@@ -27,9 +27,9 @@ followed goes bytes n ns more r a = seen_begun goes is_space (bytes ++ more) r (
 behind_first : (bytes : List ℕ) (n : ℕ) (ns : List ℕ) (a : AreNumbers is_gap bytes (n ∷ ns)) → length (a.0 ++ a.1) + length a.2 ≡ length bytes
 behind_first bytes n ns a = omega (arith, ap length a.3, length-append a.0 (a.1 ++ a.2), length-append a.1 a.2, length-append a.0 a.1)
 
-module _ (goes : Bool) (role : Role) (at : ℕ) where
+module _ (goes : Bool) (sought : Sought) (at : ℕ) where
   pub header_again : (sizes : List ℕ) (w h : ℕ) (gap digits : List ℕ) (s : ℕ) (more : List ℕ) → AreNumbers is_gap sizes (w ∷ h ∷ []) → is_gap gap ≡ true → is_number digits ≡ true → is_space s ≡ true
-      → header_at role goes at (sizes ++ (gap ++ (digits ++ (s ∷ more)))) ≡ unless_broken (header_break role w h (capped_number digits) (at + length (sizes ++ gap))) (done (header_record w h (capped_number digits)) ((at + length (sizes ++ (gap ++ digits))) + 1) more)
+      → header_at sought goes at (sizes ++ (gap ++ (digits ++ (s ∷ more)))) ≡ unless_broken (header_break sought w h (capped_number digits) (at + length (sizes ++ gap))) (done (header_record w h (capped_number digits)) ((at + length (sizes ++ (gap ++ digits))) + 1) more)
   unfolding header_at
   header_again sizes w h gap digits s more a g n k =
       let tail : List ℕ = gap ++ (digits ++ (s ∷ more)) in
@@ -56,8 +56,8 @@ all_numbers k part rest three (inl n) = (n.none, n.no_space, (let le = n.header 
 all_numbers k part rest three (inr (inl n)) = absurd (let lt = n.header in omega arith)
 all_numbers k part rest three (inr (inr n)) = absurd (let lt = n.header in omega arith)
 
-module _ (goes : Bool) (role : Role) (at : ℕ) where
-  pub header_breaks_again : (numbers values part rest : List ℕ) → AreNumbers is_gap numbers values → IsStuck (length values) part rest → header_at role goes at (numbers ++ (part ++ rest)) ≡ seen goes rest (breaks (Form (at + length (numbers ++ part))))
+module _ (goes : Bool) (sought : Sought) (at : ℕ) where
+  pub header_breaks_again : (numbers values part rest : List ℕ) → AreNumbers is_gap numbers values → IsStuck (length values) part rest → header_at sought goes at (numbers ++ (part ++ rest)) ≡ seen goes rest (breaks (Form (at + length (numbers ++ part))))
   unfolding header_at
   header_breaks_again numbers [] part rest a s = rw a (rw (field_break_again goes 0 at part rest s) (seen_then goes rest (breaks (Form (at + length part))) _))
   header_breaks_again numbers (v ∷ []) part rest a s =

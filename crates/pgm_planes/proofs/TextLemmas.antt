@@ -1,6 +1,6 @@
 -- What is written of a plane spells it.
 use Rattle.std.proofs.Common.{◌≡◌, ℕ, ◌+◌, ◌*◌, ◌/◌, ◌%◌, ◌-◌, ◌≤◌, ◌<◌, Bool, true, false, List, [], ◌∷◌, ◌++◌, decimal, refl, ◌∙◌, append_assoc, arith}
-use Rattle.pgm_planes.proofs.Words.{list_all, and_parts, lt-ltb, decimal_by_steps, Role, Phase, Weight, Mask, Raw, is_digit, is_gap, is_number, goes_on_to, capped_number, PlaneOf, HasMaxval, IsPlane, AreNumbers, IsRaster, is_wide, IsPlaneText, raster_text, plane_header_text, plane_text}
+use Rattle.pgm_planes.proofs.Words.{list_all, and_parts, lt-ltb, decimal_by_steps, Role, Phase, Weight, Mask, Extent, Tiled, Whole, Sought, Raw, is_digit, is_gap, is_number, goes_on_to, capped_number, PlaneOf, HasMaxval, max_side_within, IsSoughtPlane, AreNumbers, IsRaster, is_wide, IsSoughtText, raster_text, plane_header_text, plane_text}
 use Rattle.std.proofs.lemmas.List.{append-nil}
 use Rattle.pgm_planes.proofs.SampleLemmas.{all_append}
 
@@ -49,6 +49,11 @@ maxval_within Phase m h = omega (arith, h)
 maxval_within Weight m h = h.1
 maxval_within Mask m h = h.1
 
+-- and so is every side of a raster
+side_within : (extent : Extent) (n : ℕ) → n ≤ max_side_within extent → n ≤ 65535
+side_within Tiled n le = omega (arith, le)
+side_within Whole n le = le
+
 -- the three numbers of the header, each after a byte of white space
 numbers : ℕ → ℕ → ℕ → List ℕ
 numbers w h m = 10 ∷ (decimal w ++ (32 ∷ (decimal h ++ (10 ∷ (decimal m ++ [])))))
@@ -79,14 +84,14 @@ parted : (p : PlaneOf) → plane_text p ≡ 80 ∷ 53 ∷ (numbers p.width p.hei
 unfolding plane_text plane_header_text numbers
 parted p = simp (append_assoc, append-nil) refl
 
-pub written_is_read : (role : Role) (p : PlaneOf) (rest : List ℕ) → IsPlane role p → IsPlaneText Raw role (plane_text p) p rest
-written_is_read role p rest i = record {
+pub written_is_read : (sought : Sought) (p : PlaneOf) (rest : List ℕ) → IsSoughtPlane sought p → IsSoughtText Raw sought (plane_text p) p rest
+written_is_read sought p rest i = record {
   samples = 10 ∷ raster_text (is_wide p.maxval) p.samples;
   end = [];
   header = record {
     numbers = numbers p.width p.height p.maxval;
     whole = parted p;
-    are = are_numbers p.width p.height p.maxval (omega (arith, i.size.across.1)) (omega (arith, i.size.along.1)) (maxval_within role p.maxval i.maxval);
+    are = are_numbers p.width p.height p.maxval (side_within sought.extent p.width i.size.across.1) (side_within sought.extent p.height i.size.along.1) (maxval_within sought.role p.maxval i.maxval);
     space = refl;
   };
   raster = (10, raster_text (is_wide p.maxval) p.samples, refl, refl, raster_of (is_wide p.maxval) p.samples);

@@ -3,6 +3,7 @@
 -- of the bytes has the place `at`.
 use Rattle.std.specs.Prelude.{◌≡◌, ◌≢◌, ℕ, ◌+◌, ◌*◌, ◌≤◌, ◌<◌, ◌==◌, Bool, false, not, IsTrue, if◌then◌else◌, List, [], ◌∷◌, ◌++◌, length, All, ⊤, ◌⊎◌}
 use Rattle.std.specs.List.{list_all}
+use Rattle.pgm_planes.specs.declared.extent.Extent.TheVariants.{Tiled}
 use Rattle.pgm_planes.specs.declared.fault.Role.{Role}
 use Rattle.pgm_planes.specs.declared.fault.Role.TheVariants.{Phase}
 use Rattle.pgm_planes.specs.declared.fault.PlaneFault.{PlaneFault}
@@ -10,7 +11,7 @@ use Rattle.pgm_planes.specs.declared.fault.PlaneFault.TheVariants.{Magic, Form, 
 use Rattle.pgm_planes.specs.declared.spelling.Spelling.{Spelling}
 use Rattle.pgm_planes.specs.declared.spelling.Spelling.TheVariants.{Raw, Plain}
 use Rattle.pgm_planes.specs.Gaps.{is_space, is_line_end, is_digit, is_gap, is_blank, is_number, capped_number, begins}
-use Rattle.pgm_planes.specs.Planes.{HasMaxval, IsSize, AreNumbers, digit_of, HasHeader, is_wide, AreSamples}
+use Rattle.pgm_planes.specs.Planes.{Sought, sought_within, HasMaxval, IsSizeWithin, max_sample, AreNumbers, digit_of, HasHeader, is_wide, AreSamples}
 
 abbrev pub is_hash : ℕ → Bool
 is_hash b = b == 35
@@ -58,7 +59,7 @@ pub record BreaksInHeader (bytes rest : List ℕ) : Type 0 where
   pub stuck : HasNoGap (length values) part rest ⊎ (HasNoNumber (length values) part rest ⊎ EndsInComment (length values) part rest)
 
 -- The size is good and the role's maxval is not, where the role is no phase; `rest` begins with maxval's digits.
-pub record BreaksAtMaxval (role : Role) (bytes rest : List ℕ) : Type 0 where
+pub record BreaksAtMaxval (sought : Sought) (bytes rest : List ℕ) : Type 0 where
   pub spelling : Spelling
   pub numbers : List ℕ
   pub width : ℕ
@@ -72,22 +73,22 @@ pub record BreaksAtMaxval (role : Role) (bytes rest : List ℕ) : Type 0 where
   pub maxval : rest ≡ digits ++ behind
   pub number : IsTrue (is_number digits)
   pub space : IsTrue (begins is_space behind)
-  pub size : IsSize width height
-  pub other_role : role ≢ Phase
-  pub refused : HasMaxval role (capped_number digits) → ⊥
+  pub size : IsSizeWithin sought.extent width height
+  pub other_role : sought.role ≢ Phase
+  pub refused : HasMaxval sought.role (capped_number digits) → ⊥
 
 -- The header is good; then so many good samples stand, in `samples`, fewer than there are pixels or all, and then `rest`.
-pub record HasSamples (spelling : Spelling) (role : Role) (bytes samples values rest : List ℕ) (maxval pixels : ℕ) : Type 0 where
+pub record HasSamples (spelling : Spelling) (sought : Sought) (bytes samples values rest : List ℕ) (maxval pixels : ℕ) : Type 0 where
   pub width : ℕ
   pub height : ℕ
   pub header : HasHeader spelling bytes width height maxval (samples ++ rest)
-  pub size : IsSize width height
+  pub size : IsSizeWithin sought.extent width height
   pub pixels_are : pixels ≡ width * height
-  pub fits : HasMaxval role maxval
+  pub fits : HasMaxval sought.role maxval
   pub below : All (λ v. v ≤ maxval) values
 
 -- A plain raster breaks where `rest` begins: after some samples and white space, none of it after the last sample.
-pub record BreaksInRaster (role : Role) (bytes rest : List ℕ) : Type 0 where
+pub record BreaksInRaster (sought : Sought) (bytes rest : List ℕ) : Type 0 where
   pub samples : List ℕ
   pub values : List ℕ
   pub blank : List ℕ
@@ -95,7 +96,7 @@ pub record BreaksInRaster (role : Role) (bytes rest : List ℕ) : Type 0 where
   pub behind : List ℕ
   pub maxval : ℕ
   pub pixels : ℕ
-  pub good : HasSamples Plain role bytes samples values (blank ++ rest) maxval pixels
+  pub good : HasSamples Plain sought bytes samples values (blank ++ rest) maxval pixels
   pub are : AreNumbers is_blank samples values
   pub some : length values ≤ pixels
   pub blanks : IsTrue (list_all is_space blank)
@@ -110,14 +111,14 @@ HasEnded Raw rest = ⊤
 HasEnded Plain rest = begins is_digit rest ≡ false
 
 -- After so many good samples stands one that is above maxval.
-pub record IsAbove (role : Role) (bytes : List ℕ) (index value : ℕ) : Type 0 where
+pub record IsAbove (sought : Sought) (bytes : List ℕ) (index value : ℕ) : Type 0 where
   pub spelling : Spelling
   pub samples : List ℕ
   pub values : List ℕ
   pub rest : List ℕ
   pub maxval : ℕ
   pub pixels : ℕ
-  pub good : HasSamples spelling role bytes samples values rest maxval pixels
+  pub good : HasSamples spelling sought bytes samples values rest maxval pixels
   pub are : AreSamples spelling maxval samples (values ++ value ∷ [])
   pub ended : HasEnded spelling rest
   pub place : index ≡ length values
@@ -130,43 +131,47 @@ IsPartOfSample Raw maxval part = length part < (if is_wide maxval then 2 else 1)
 IsPartOfSample Plain maxval part = IsTrue (list_all is_space part)
 
 -- The input ends after so many good samples and less than another.
-pub record IsShort (role : Role) (bytes : List ℕ) (found : ℕ) : Type 0 where
+pub record IsShort (sought : Sought) (bytes : List ℕ) (found : ℕ) : Type 0 where
   pub spelling : Spelling
   pub samples : List ℕ
   pub values : List ℕ
   pub part : List ℕ
   pub maxval : ℕ
   pub pixels : ℕ
-  pub good : HasSamples spelling role bytes samples values part maxval pixels
+  pub good : HasSamples spelling sought bytes samples values part maxval pixels
   pub are : AreSamples spelling maxval samples values
   pub cut : IsPartOfSample spelling maxval part
   pub count : found ≡ length values
   pub some : found < pixels
 
 -- The size is good and the role is phase, but maxval is another than 65535.
-pub record HasOtherMaxval (role : Role) (bytes : List ℕ) (maxval : ℕ) : Type 0 where
+pub record HasOtherMaxval (sought : Sought) (bytes : List ℕ) (maxval : ℕ) : Type 0 where
   pub spelling : Spelling
   pub width : ℕ
   pub height : ℕ
   pub behind : List ℕ
   pub header : HasHeader spelling bytes width height maxval behind
-  pub size : IsSize width height
-  pub phase : role ≡ Phase
-  pub other : maxval ≢ 65535
+  pub size : IsSizeWithin sought.extent width height
+  pub phase : sought.role ≡ Phase
+  pub other : maxval ≢ max_sample
 
 -- The header was read, and its size is beyond the limits.
-pub record HasSizeBeyond (bytes : List ℕ) (width height : ℕ) : Type 0 where
+pub record HasSizeBeyond (sought : Sought) (bytes : List ℕ) (width height : ℕ) : Type 0 where
   pub spelling : Spelling
   pub maxval : ℕ
   pub behind : List ℕ
   pub header : HasHeader spelling bytes width height maxval behind
-  pub beyond : ¬ IsSize width height
+  pub beyond : ¬ IsSizeWithin sought.extent width height
 
 -- the first break, by its kind
+abbrev pub SoughtBreak : Sought → ℕ → List ℕ → PlaneFault → Type 0
+SoughtBreak sought at bytes Magic = HasNoMagic bytes
+SoughtBreak sought at bytes (Form place) = (rest : List ℕ) × (at + length bytes ≡ place + length rest) × (BreaksInHeader bytes rest ⊎ (BreaksAtMaxval sought bytes rest ⊎ BreaksInRaster sought bytes rest))
+SoughtBreak sought at bytes (Size width height) = HasSizeBeyond sought bytes width height
+SoughtBreak sought at bytes (PhaseMaxval maxval) = HasOtherMaxval sought bytes maxval
+SoughtBreak sought at bytes (SampleAbove index value) = IsAbove sought bytes index value
+SoughtBreak sought at bytes (Short found) = IsShort sought bytes found
+
+-- the same of a raster that may have tiles
 abbrev pub FirstBreak : Role → ℕ → List ℕ → PlaneFault → Type 0
-FirstBreak role at bytes Magic = HasNoMagic bytes
-FirstBreak role at bytes (Form place) = (rest : List ℕ) × (at + length bytes ≡ place + length rest) × (BreaksInHeader bytes rest ⊎ (BreaksAtMaxval role bytes rest ⊎ BreaksInRaster role bytes rest))
-FirstBreak role at bytes (Size width height) = HasSizeBeyond bytes width height
-FirstBreak role at bytes (PhaseMaxval maxval) = HasOtherMaxval role bytes maxval
-FirstBreak role at bytes (SampleAbove index value) = IsAbove role bytes index value
-FirstBreak role at bytes (Short found) = IsShort role bytes found
+FirstBreak role at bytes fault = SoughtBreak (sought_within Tiled role) at bytes fault

@@ -4,10 +4,13 @@ use Rattle.std.specs.List.{list_all}
 use Rattle.raster_model.specs.declared.plane.Plane.{Plane}
 use Rattle.pgm_planes.specs.declared.fault.Role.{Role}
 use Rattle.pgm_planes.specs.declared.fault.Role.TheVariants.{Phase, Weight, Mask}
+use Rattle.pgm_planes.specs.declared.extent.Extent.{Extent}
+use Rattle.pgm_planes.specs.declared.extent.Extent.TheVariants.{Tiled, Whole}
+use Rattle.pgm_planes.specs.declared.header.TheConstants.{MAX_SAMPLE}
 use Rattle.pgm_planes.specs.declared.spelling.Spelling.{Spelling}
 use Rattle.pgm_planes.specs.declared.spelling.Spelling.TheVariants.{Raw, Plain}
 use Rattle.pgm_planes.specs.Gaps.{is_space, is_gap, is_blank, is_number, capped_number, begins}
-use Rattle.raster_model.specs.Limits.{max_tiled_pixels, max_tiled_side}
+use Rattle.raster_model.specs.Limits.{max_pixels, max_side, max_tiled_pixels, max_tiled_side}
 
 -- a plane without where its samples lie in memory
 pub record PlaneOf : Type 0 where
@@ -19,22 +22,47 @@ pub record PlaneOf : Type 0 where
 abbrev pub plane_of : Plane → PlaneOf
 plane_of p = record { width = p.width; height = p.height; maxval = p.maxval; samples = p.samples.items }
 
+-- the most that a sample may be
+abbrev pub max_sample : ℕ
+max_sample = MAX_SAMPLE
+
 -- a phase plane has the maxval 65535, and the others any from 1 to 65535
 abbrev pub HasMaxval : Role → ℕ → Type 0
-HasMaxval Phase maxval = maxval ≡ 65535
-HasMaxval Weight maxval = (1 ≤ maxval) × (maxval ≤ 65535)
-HasMaxval Mask maxval = (1 ≤ maxval) × (maxval ≤ 65535)
+HasMaxval Phase maxval = maxval ≡ max_sample
+HasMaxval Weight maxval = (1 ≤ maxval) × (maxval ≤ max_sample)
+HasMaxval Mask maxval = (1 ≤ maxval) × (maxval ≤ max_sample)
+
+-- the most pixels along a side of a raster of this extent, and in all
+abbrev pub max_side_within : Extent → ℕ
+max_side_within Tiled = max_tiled_side
+max_side_within Whole = max_side
+
+abbrev pub max_pixels_within : Extent → ℕ
+max_pixels_within Tiled = max_tiled_pixels
+max_pixels_within Whole = max_pixels
+
+-- sides from 1 to the most of the extent, and no more pixels than that
+pub record IsSizeWithin (extent : Extent) (width height : ℕ) : Type 0 where
+  pub across : (1 ≤ width) × (width ≤ max_side_within extent)
+  pub along : (1 ≤ height) × (height ≤ max_side_within extent)
+  pub pixels : width * height ≤ max_pixels_within extent
 
 -- sides from 1 to 4,096, and at most 4,194,304 pixels
-pub record IsSize (width height : ℕ) : Type 0 where
-  pub across : (1 ≤ width) × (width ≤ max_tiled_side)
-  pub along : (1 ≤ height) × (height ≤ max_tiled_side)
-  pub pixels : width * height ≤ max_tiled_pixels
+abbrev pub IsSize : ℕ → ℕ → Type 0
+IsSize width height = IsSizeWithin Tiled width height
+
+-- which plane is sought: what for, and how large it may be
+pub record Sought : Type 0 where
+  pub role : Role
+  pub extent : Extent
+
+abbrev pub sought_within : Extent → Role → Sought
+sought_within extent role = record { role = role; extent = extent }
 
 -- a size within the limits, a maxval of the role, a sample for each pixel, none above maxval
-pub record IsPlane (role : Role) (p : PlaneOf) : Type 0 where
-  pub size : IsSize p.width p.height
-  pub maxval : HasMaxval role p.maxval
+pub record IsSoughtPlane (sought : Sought) (p : PlaneOf) : Type 0 where
+  pub size : IsSizeWithin sought.extent p.width p.height
+  pub maxval : HasMaxval sought.role p.maxval
   pub count : length p.samples ≡ p.width * p.height
   pub samples : All (λ v. v ≤ p.maxval) p.samples
 
@@ -80,18 +108,32 @@ IsPlaneEnd Raw blank rest = blank ≡ []
 IsPlaneEnd Plain blank rest = IsTrue (list_all is_space blank) × (begins is_space rest ≡ false) × (blank ≡ [] → rest ≡ [])
 
 -- The bytes spell a plane, where `rest` follows: the header, the samples and the end.
-pub record IsPlaneText (spelling : Spelling) (role : Role) (bytes : List ℕ) (p : PlaneOf) (rest : List ℕ) : Type 0 where
+pub record IsSoughtText (spelling : Spelling) (sought : Sought) (bytes : List ℕ) (p : PlaneOf) (rest : List ℕ) : Type 0 where
   pub samples : List ℕ
   pub end : List ℕ
   pub header : HasHeader spelling bytes p.width p.height p.maxval (samples ++ end)
   pub raster : AreSamples spelling p.maxval samples p.samples
   pub ended : IsPlaneEnd spelling end rest
-  pub plane : IsPlane role p
+  pub plane : IsSoughtPlane sought p
 
 -- the bytes spell a plane in either way, where `rest` follows
-abbrev pub SpellsPlane : Role → List ℕ → PlaneOf → List ℕ → Type 0
-SpellsPlane role bytes p rest = (spelling : Spelling) × IsPlaneText spelling role bytes p rest
+abbrev pub SpellsSought : Sought → List ℕ → PlaneOf → List ℕ → Type 0
+SpellsSought sought bytes p rest = (spelling : Spelling) × IsSoughtText spelling sought bytes p rest
 
 -- the bytes are a plane's text and then `rest`
+abbrev pub IsSoughtIn : Sought → List ℕ → PlaneOf → List ℕ → Type 0
+IsSoughtIn sought bytes p rest = (text : List ℕ) × (bytes ≡ text ++ rest) × SpellsSought sought text p rest
+
+-- ---- the same of a raster that may have tiles
+
+abbrev pub IsPlane : Role → PlaneOf → Type 0
+IsPlane role p = IsSoughtPlane (sought_within Tiled role) p
+
+abbrev pub IsPlaneText : Spelling → Role → List ℕ → PlaneOf → List ℕ → Type 0
+IsPlaneText spelling role bytes p rest = IsSoughtText spelling (sought_within Tiled role) bytes p rest
+
+abbrev pub SpellsPlane : Role → List ℕ → PlaneOf → List ℕ → Type 0
+SpellsPlane role bytes p rest = SpellsSought (sought_within Tiled role) bytes p rest
+
 abbrev pub IsPlaneIn : Role → List ℕ → PlaneOf → List ℕ → Type 0
-IsPlaneIn role bytes p rest = (text : List ℕ) × (bytes ≡ text ++ rest) × SpellsPlane role text p rest
+IsPlaneIn role bytes p rest = IsSoughtIn (sought_within Tiled role) bytes p rest

@@ -3,6 +3,8 @@
 use Rattle.std.specs.Prelude.{◌≡◌, ℕ, zero, suc, ◌+◌, ◌*◌, ◌-◌, min, nat_lt, ◌==◌, ◌&&◌, ◌||◌, Bool, true, false, not, if◌then◌else◌, List, [], ◌∷◌, length, take, Option, Some, None, Result, Ok, Err}
 use Rattle.insar_ports.specs.Bytes.{HasMore, HasRisen}
 use Rattle.insar_ports.specs.Calls.{Call, Moves}
+use Rattle.pgm_planes.specs.declared.extent.Extent.{Extent}
+use Rattle.pgm_planes.specs.declared.extent.Extent.TheVariants.{Tiled}
 use Rattle.pgm_planes.specs.declared.fault.Role.{Role}
 use Rattle.pgm_planes.specs.declared.fault.Role.TheVariants.{Phase, Weight, Mask}
 use Rattle.pgm_planes.specs.declared.fault.PlaneFault.{PlaneFault}
@@ -15,8 +17,7 @@ use Rattle.pgm_planes.specs.declared.spelling.Spelling.TheVariants.{Raw, Plain}
 use Rattle.pgm_planes.specs.declared.samples.SampleForm.{SampleForm}
 use Rattle.pgm_planes.specs.declared.samples.SampleForm.TheVariants.{Narrow, Wide, Digits}
 use Rattle.pgm_planes.specs.Gaps.{is_space, is_line_end, is_digit}
-use Rattle.pgm_planes.specs.Planes.{PlaneOf}
-use Rattle.raster_model.specs.Limits.{max_tiled_pixels, max_tiled_side}
+use Rattle.pgm_planes.specs.Planes.{Sought, sought_within, PlaneOf, max_sample, max_side_within, max_pixels_within}
 
 -- a value, the place after it and the bytes from there, or the break, or none where another byte is asked for
 abbrev pub Reading : Type 0 → Type 0
@@ -146,25 +147,25 @@ pub record HeaderOf : Type 0 where
   pub maxval : ℕ
 
 -- a side or the pixels break a limit
-abbrev pub is_too_large : ℕ → ℕ → Bool
-is_too_large width height = (width == 0) || (nat_lt max_tiled_side width) || (height == 0) || (nat_lt max_tiled_side height) || (nat_lt max_tiled_pixels (width * height))
+abbrev pub is_too_large : Extent → ℕ → ℕ → Bool
+is_too_large extent width height = (width == 0) || (nat_lt (max_side_within extent) width) || (height == 0) || (nat_lt (max_side_within extent) height) || (nat_lt (max_pixels_within extent) (width * height))
 
 -- what is wrong with a maxval whose first digit stands at the place
 abbrev pub maxval_break : Role → ℕ → ℕ → Option PlaneFault
-maxval_break Phase maxval place = if maxval == 65535 then None else Some (PhaseMaxval maxval)
-maxval_break Weight maxval place = if (maxval == 0) || (nat_lt 65535 maxval) then Some (Form place) else None
-maxval_break Mask maxval place = if (maxval == 0) || (nat_lt 65535 maxval) then Some (Form place) else None
+maxval_break Phase maxval place = if maxval == max_sample then None else Some (PhaseMaxval maxval)
+maxval_break Weight maxval place = if (maxval == 0) || (nat_lt max_sample maxval) then Some (Form place) else None
+maxval_break Mask maxval place = if (maxval == 0) || (nat_lt max_sample maxval) then Some (Form place) else None
 
 -- the size is judged before the maxval
-abbrev pub header_break : Role → ℕ → ℕ → ℕ → ℕ → Option PlaneFault
-header_break role width height maxval place = if is_too_large width height then Some (Size width height) else maxval_break role maxval place
+abbrev pub header_break : Sought → ℕ → ℕ → ℕ → ℕ → Option PlaneFault
+header_break sought width height maxval place = if is_too_large sought.extent width height then Some (Size width height) else maxval_break sought.role maxval place
 
 abbrev pub unless_broken : {A : Type 0} → Option PlaneFault → Reading A → Reading A
 unless_broken None reading = reading
 unless_broken (Some fault) reading = breaks fault
 
-unfoldable pub header_at : Role → Reader HeaderOf
-header_at role = field_at ▸ λ w. field_at ▸ λ h. field_at ▸ λ m. space_at ▸ λ _ more at rest. unless_broken (header_break role w.0 h.0 m.0 m.1) (Ok (record { width = w.0; height = h.0; maxval = m.0 }, at, rest))
+unfoldable pub header_at : Sought → Reader HeaderOf
+header_at sought = field_at ▸ λ w. field_at ▸ λ h. field_at ▸ λ m. space_at ▸ λ _ more at rest. unless_broken (header_break sought w.0 h.0 m.0 m.1) (Ok (record { width = w.0; height = h.0; maxval = m.0 }, at, rest))
 
 -- the sample with the given index, if it is not above maxval
 abbrev pub judged : ℕ → ℕ → ℕ → Result ℕ PlaneFault
@@ -204,8 +205,12 @@ end_of Plain vs = end_at ▸ λ _. pure vs
 unfoldable pub raster_at : Spelling → ℕ → ℕ → Reader (List ℕ)
 raster_at spelling maxval count = samples_at (form_of spelling maxval) maxval count 0 ▸ end_of spelling
 
-unfoldable pub plane_at : Role → Reader PlaneOf
-plane_at role = magic_at ▸ λ spelling. header_at role ▸ λ h. raster_at spelling h.maxval (h.width * h.height) ▸ λ vs. pure (record { width = h.width; height = h.height; maxval = h.maxval; samples = vs })
+unfoldable pub sought_at : Sought → Reader PlaneOf
+sought_at sought = magic_at ▸ λ spelling. header_at sought ▸ λ h. raster_at spelling h.maxval (h.width * h.height) ▸ λ vs. pure (record { width = h.width; height = h.height; maxval = h.maxval; samples = vs })
+
+-- the same of a raster that may have tiles
+abbrev pub plane_at : Role → Reader PlaneOf
+plane_at role = sought_at (sought_within Tiled role)
 
 -- ---- calls on a feed
 

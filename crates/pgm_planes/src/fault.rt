@@ -29,7 +29,7 @@ pub enum PlaneFault {
     /// 65535.
     #[error("the form breaks at byte {0}")]
     Form(u64),
-    /// A side is 0 or above 4096, or there are more than 4194304 pixels.
+    /// A side is 0 or above the most of the extent, or there are more pixels than that.
     #[error("the size {width} by {height} is beyond the limits")]
     Size { width: u32, height: u32 },
     /// The maxval of a phase plane is this and not 65535.

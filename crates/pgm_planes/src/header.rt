@@ -1,14 +1,17 @@
 ghost use Rattle.std.specs.Prelude.{◌≡◌, ◌≤◌, ◌+◌, Some, IfOk, IfSome, IfNone, Ok, true, false};
 ghost use Rattle.insar_ports.specs.Feeding.{source_name, limit_of, handed_of, waiting_of};
 ghost use Rattle.pgm_planes.specs.Gaps.{is_space as is_space_byte, is_line_end as is_line_end_byte, is_digit as is_digit_byte};
-ghost use Rattle.pgm_planes.specs.Planes.{HasMaxval, IsSize};
+ghost use Rattle.pgm_planes.specs.Planes.{HasMaxval, IsSizeWithin, sought_within};
 ghost use Rattle.insar_ports.specs.Calls.{call_of};
-ghost use Rattle.pgm_planes.specs.Reading.{Reads, nothing, byte_at, sight_at, octet_at, spelling_of as spelling_of_magic, magic_at, space_at, filling_at, blanks_at, inside_after as inside_after_byte, digits_at, numeral_at, field_at, with_digit as with_digit_byte, header_break as break_of_header, header_at, header_of};
+ghost use Rattle.pgm_planes.specs.Reading.{Reads, nothing, byte_at, sight_at, octet_at, spelling_of as spelling_of_magic, magic_at, space_at, filling_at, blanks_at, inside_after as inside_after_byte, digits_at, numeral_at, field_at, with_digit as with_digit_byte, header_break as break_of_header, maxval_break as break_of_maxval, header_at, header_of};
 
+use crate::extent::Extent;
 use crate::fault::{PlaneFault, ReadPlaneFault, Role};
 use crate::spelling::Spelling;
 use insar_ports::{Feed, Source};
-use raster_model::{MAX_TILED_PIXELS, MAX_TILED_SIDE};
+
+/// The greatest sample: maxval of a phase plane, and the most that any maxval is.
+pub const MAX_SAMPLE: u32 = 65_535;
 
 /// The numbers of a plane's header, which are within the limits.
 #[derive(Clone, Copy)]
@@ -224,36 +227,57 @@ fn read_field<S: Source>(feed: &mut Feed<S>) -> Result<(u32, u64), ReadPlaneFaul
 }
 
 /// What is wrong with the numbers of a header; `place` is that of maxval's first digit.
-fn header_break(role: Role, width: u32, height: u32, maxval: u32, place: u64) -> Option<PlaneFault>
-    ensures exact { result ≡ break_of_header role width height maxval place }
-    ensures fits { IfNone result (IsSize width height × HasMaxval role maxval) }
-    ensures valued { IfNone result ((1 ≤ maxval) × (maxval ≤ 65535)) }
+fn header_break(
+    role: Role,
+    extent: Extent,
+    width: u32,
+    height: u32,
+    maxval: u32,
+    place: u64,
+) -> Option<PlaneFault>
+    ensures exact { result ≡ break_of_header (sought_within extent role) width height maxval place }
+    ensures fits { IfNone result (IsSizeWithin extent width height × HasMaxval role maxval) }
+    ensures valued { IfNone result ((1 ≤ maxval) × (maxval ≤ MAX_SAMPLE)) }
 {
-    let sides = 1..=MAX_TILED_SIDE;
-    if !sides.contains(&width) || !sides.contains(&height) || width * height > MAX_TILED_PIXELS {
+    if !extent.has(width, height) {
         return Some(PlaneFault::Size { width, height });
     }
+    maxval_break(role, maxval, place)
+}
+
+/// What is wrong with a maxval, whose first digit stands at `place`.
+fn maxval_break(role: Role, maxval: u32, place: u64) -> Option<PlaneFault>
+    ensures exact { result ≡ break_of_maxval role maxval place }
+    ensures fits { IfNone result (HasMaxval role maxval) }
+    ensures valued { IfNone result ((1 ≤ maxval) × (maxval ≤ MAX_SAMPLE)) }
+{
     match role {
-        Role::Phase if maxval != 65535 => Some(PlaneFault::PhaseMaxval(maxval)),
-        Role::Weight | Role::Mask if maxval == 0 || maxval > 65535 => Some(PlaneFault::Form(place)),
+        Role::Phase if maxval != MAX_SAMPLE => Some(PlaneFault::PhaseMaxval(maxval)),
+        Role::Weight | Role::Mask if maxval == 0 || maxval > MAX_SAMPLE => {
+            Some(PlaneFault::Form(place))
+        }
         _ => None,
     }
 }
 
 /// Takes the numbers of a header and the white space byte after them.
-pub fn read_header<S: Source>(feed: &mut Feed<S>, role: Role) -> Result<Header, ReadPlaneFault>
+pub fn read_header<S: Source>(
+    feed: &mut Feed<S>,
+    role: Role,
+    extent: Extent,
+) -> Result<Header, ReadPlaneFault>
     ensures same_source { source_name feed.new ≡ source_name feed.old }
     ensures limit { limit_of feed.new ≡ limit_of feed.old }
-    ensures size { IfOk result (λ header. IsSize header.width header.height) }
+    ensures size { IfOk result (λ header. IsSizeWithin extent header.width header.height) }
     ensures fits { IfOk result (λ header. HasMaxval role header.maxval) }
     ensures valued { IfOk result (λ header. 1 ≤ header.maxval) }
-    ensures reads { Reads header_of result (call_of S.left S.faults feed.old feed.new) (header_at role) }
+    ensures reads { Reads header_of result (call_of S.left S.faults feed.old feed.new) (header_at (sought_within extent role)) }
 {
     let (width, _) = read_field(feed)?;
     let (height, _) = read_field(feed)?;
     let (maxval, place) = read_field(feed)?;
     read_space(feed)?;
-    match header_break(role, width, height, maxval, place) {
+    match header_break(role, extent, width, height, maxval, place) {
         Some(fault) => Err(ReadPlaneFault::Plane(fault)),
         None => Ok(Header {
             width,

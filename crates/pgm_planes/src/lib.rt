@@ -1,6 +1,7 @@
 //! PGM planes: read exactly, as a plane or its first break with the place, and written.
 #![tactic(auto)]
 
+mod extent;
 mod fault;
 mod header;
 pub mod laws;
@@ -10,6 +11,8 @@ mod samples;
 mod spelling;
 mod write;
 
+pub use extent::Extent;
 pub use fault::{InputFault, PlaneFault, ReadPlaneFault, Role};
-pub use plane::read_plane;
+pub use header::MAX_SAMPLE;
+pub use plane::{read_plane, read_plane_within};
 pub use write::{add_header, add_plane, write_plane};

@@ -21,8 +21,8 @@ use Rattle.pgm_planes.specs.declared.fault.ReadPlaneFault.{ReadPlaneFault}
 use Rattle.pgm_planes.specs.declared.fault.ReadPlaneFault.TheVariants as errors
 use Rattle.pgm_planes.specs.declared.fault.Role.{Role}
 use Rattle.pgm_planes.specs.declared.fault.Role.TheVariants.{Phase}
-use Rattle.pgm_planes.specs.Planes.{plane_of}
-use Rattle.pgm_planes.specs.Reading.{Reader, Reads, Told, goes_beyond, plane_at, sight_at}
+use Rattle.pgm_planes.specs.Planes.{Sought, plane_of}
+use Rattle.pgm_planes.specs.Reading.{Reader, Reads, Told, goes_beyond, sought_at, sight_at}
 use Rattle.raster_model.specs.declared.plane.Plane.{Plane}
 use Rattle.pgm_planes.proofs.CallLemmas.{Told-then, takes_a_sight, byte_fails, sight_asks}
 use Rattle.session_script.specs.declared.fault.SessionFault.{SessionFault}
@@ -126,9 +126,9 @@ module _ {X A : Type 0} {view : X → A} (role : Role) (c : Call) (p : Parser A)
   lifts_fault errors.Memory h = record { moves = h.moves; outcome = tt }
 
 -- a plane, whose fault was told as the session's
-pub of_plane : (role : Role) (c : Call) (r : Result Plane ReadPlaneFault) (s : Result Plane SessionFault) → Reads plane_of r c (plane_at role) → MatchResult r (λ x. s ≡ Ok x) (λ e. s ≡ Err (fault_of_plane role e)) → Parses plane_of s c (plane_parser role)
-of_plane role c (Ok x) s h is = rw is (lifts role c (plane_parser role) (plane_at role) (λ more at bytes. refl) x h)
-of_plane role c (Err e) s h is = rw is (lifts_fault role c (plane_parser role) (plane_at role) (λ more at bytes. refl) e h)
+pub of_plane : (sought : Sought) (c : Call) (r : Result Plane ReadPlaneFault) (s : Result Plane SessionFault) → Reads plane_of r c (sought_at sought) → MatchResult r (λ x. s ≡ Ok x) (λ e. s ≡ Err (fault_of_plane sought.role e)) → Parses plane_of s c (plane_parser sought)
+of_plane sought c (Ok x) s h is = rw is (lifts sought.role c (plane_parser sought) (sought_at sought) (λ more at bytes. refl) x h)
+of_plane sought c (Err e) s h is = rw is (lifts_fault sought.role c (plane_parser sought) (sought_at sought) (λ more at bytes. refl) e h)
 
 peek_is : (more : Bool) (at : ℕ) (bytes : List ℕ) → peek_parser more at bytes ≡ as_parse Phase (sight_at more at bytes)
 unfolding sight_at

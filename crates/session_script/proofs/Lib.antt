@@ -9,3 +9,4 @@ pub mod AskSession
 pub mod CallLemmas
 pub mod WrittenSession
 mod SizeLemmas
+mod WideLemmas

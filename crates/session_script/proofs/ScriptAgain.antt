@@ -1,5 +1,5 @@
 -- The parser of a script part gives what the relations say: it stands in one way or has one first break.
-use Rattle.std.proofs.Common.{◌≡◌, ◌≢◌, ℕ, ◌*◌, ◌≤◌, ◌⊎◌, Bool, true, false, inl, inr, List, [], ◌∷◌, length, Option, Some, None, Ok, Err, refl, sym, ap, subst, ◌∙◌, arith}
+use Rattle.std.proofs.Common.{◌≡◌, ◌≢◌, ℕ, ◌≤◌, ◌⊎◌, Bool, true, false, inl, inr, List, [], ◌∷◌, length, Option, Some, None, Ok, Err, refl, sym, ap, subst, ◌∙◌, arith}
 use Rattle.pgm_planes.specs.declared.fault.InputFault.{InputFault}
 use Rattle.pgm_planes.specs.declared.fault.InputFault.TheVariants.{NoEnd, AfterEnd}
 use Rattle.session_script.specs.declared.session_use.SessionUse.{SessionUse}
@@ -145,10 +145,10 @@ alone_ends f bytes scripts rest (inr h) = h.ends refl
 no_edits : (w h : ℕ) → CommandsFit w h (Settle ∷ Show ∷ [])
 no_edits w h = CommandsFit-push w h (Settle ∷ []) Show (CommandsFit-push w h [] Settle (CommandsFit-none w h) (λ edit e. absurd cc)) (λ edit e. absurd cc)
 
-pub usual_complete : (f : Frame) → f.width * f.height ≤ 4194304 → AreComplete f usual
+pub usual_complete : (f : Frame) → f.settled ≤ 67108864 → AreComplete f usual
 usual_complete f few = (omega arith, record { analysts = omega arith; short = (omega arith, tt); inside = (no_edits f.width f.height, tt); settles = omega (arith, few); changes = omega arith })
 
-pub meant_complete : (f : Frame) (ss : Sections) → f.width * f.height ≤ 4194304 → AreWithinLimits f ss → AreComplete f (meant ss)
+pub meant_complete : (f : Frame) (ss : Sections) → f.settled ≤ 67108864 → AreWithinLimits f ss → AreComplete f (meant ss)
 meant_complete f [] few within = usual_complete f few
 meant_complete f (first ∷ ss) few within = (omega arith, within)
 

@@ -162,8 +162,8 @@ module _ (f : Frame) (n : ℕ) where
   -- what a command asks of sections
   record Fits (ss : Sections) (c : Command) : Type 0 where
     pub rect : (edit : Edit) → c ≡ Change edit → IsRectIn f.width f.height (rect_of edit)
-    pub settles : (settles_of ss + cond (is_settle c) 1 0) * (f.width * f.height) ≤ 67108864
-    pub changes : (changes_of ss + cond (is_change c) 1 0) * f.tiles ≤ 16777216
+    pub settles : (settles_of ss + cond (is_settle c) 1 0) * f.settled ≤ 67108864
+    pub changes : (changes_of ss + cond (is_change c) 1 0) * f.changed ≤ 16777216
 
   fits_so : (ss : Sections) (c : Command) → AreWithinLimits f ss → limit_broken f n ss c ≡ None → Fits ss c
   fits_so ss (Change edit) within e =
@@ -173,8 +173,8 @@ module _ (f : Frame) (n : ℕ) where
   fits_so ss Show within e = record { rect = λ other is. absurd cc; settles = grind (arith, within.settles); changes = grind (arith, within.changes) }
 
   fits_back : (ss : Sections) (c : Command) → Fits ss c → limit_broken f n ss c ≡ None
-  fits_back ss (Change edit) p = rw (lies_again f (rect_of edit) (p.rect edit refl), le-ltb 16777216 ((changes_of ss + 1) * f.tiles) p.changes) refl
-  fits_back ss Settle p = rw (le-ltb 67108864 ((settles_of ss + 1) * (f.width * f.height)) p.settles) refl
+  fits_back ss (Change edit) p = rw (lies_again f (rect_of edit) (p.rect edit refl), le-ltb 16777216 ((changes_of ss + 1) * f.changed) p.changes) refl
+  fits_back ss Settle p = rw (le-ltb 67108864 ((settles_of ss + 1) * f.settled) p.settles) refl
   fits_back ss Show p = refl
 
   -- ---- one command more in the last section
@@ -209,8 +209,8 @@ module _ (f : Frame) (n : ℕ) where
             analysts = omega (arith, within.analysts, length-append front (s ∷ []), length-append front ((s ++ c ∷ []) ∷ []));
             short = all_push (λ commands. length commands ≤ 4096) front s short.0 (omega (arith, room));
             inside = all_push (CommandsFit f.width f.height) front s inside.0 (λ k edit e. inside.1 k edit (get_front s c (Change edit) k e));
-            settles = omega (arith, settles, mul-le (settles_of old) (f.width * f.height) (settles_of old + cond (is_settle c) 1 0) (f.width * f.height) (omega arith) (le_refl (f.width * f.height)));
-            changes = omega (arith, changes, mul-le (changes_of old) f.tiles (changes_of old + cond (is_change c) 1 0) f.tiles (omega arith) (le_refl f.tiles));
+            settles = omega (arith, settles, mul-le (settles_of old) f.settled (settles_of old + cond (is_settle c) 1 0) f.settled (omega arith) (le_refl f.settled));
+            changes = omega (arith, changes, mul-le (changes_of old) f.changed (changes_of old + cond (is_change c) 1 0) f.changed (omega arith) (le_refl f.changed));
           },
           room,
           record { rect = λ edit is. inside.1 (length s) edit (get_last s c ∙ ap (λ (x : Command). Some x) is); settles = settles; changes = changes },

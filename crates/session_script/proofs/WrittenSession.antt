@@ -18,7 +18,7 @@ use Rattle.session_script.specs.declared.word.Word.{Word}
 use Rattle.session_script.specs.declared.word.Word.TheVariants as words
 use Rattle.session_script.specs.Lines.{is_zero, is_plain, SpellsRect, Spells}
 use Rattle.session_script.specs.Scripts.{BeginsLine, AreLines, AreSections, meant, IsScriptPart}
-use Rattle.session_script.specs.Sections.{Sections, Frame, command_words, section_words, words_of, sections_of, AreWithinLimits, frame_of}
+use Rattle.session_script.specs.Sections.{Sections, Frame, command_words, section_words, words_of, sections_of, AreWithinLimits, frame_of_tiling}
 use Rattle.text_lines.specs.Text.{field_text, rect_text, texts_below}
 use Rattle.session_script.proofs.WithinLemmas.{few_lines, length_is}
 use Rattle.session_script.specs.Text.{word_text, line_text, command_line, section_text, scripts_text, sample_of, mask_row_text, mask_text, session_text}
@@ -27,7 +27,8 @@ use Rattle.std.proofs.lemmas.List.Elements.{All-from_recursion, All-from_get_or}
 use Rattle.raster_model.specs.MaskView.{MaskView}
 use Rattle.raster_model.specs.Masks.{IsMaskOf, open_at}
 use Rattle.pgm_planes.specs.declared.fault.Role.TheVariants.{Mask, Phase, Weight}
-use Rattle.pgm_planes.specs.Planes.{PlaneOf, IsSize, IsPlane, HasMaxval, IsPlaneIn, is_wide, plane_of}
+use Rattle.pgm_planes.specs.declared.extent.Extent.TheVariants.{Tiled}
+use Rattle.pgm_planes.specs.Planes.{PlaneOf, IsSize, IsPlane, HasMaxval, IsPlaneIn, is_wide, plane_of, sought_within}
 use Rattle.pgm_planes.specs.Text.{plane_header_text, plane_text, raster_text}
 use Rattle.pgm_planes.proofs.WriteLemmas.{narrow_text}
 use Rattle.session_script.specs.Sessions.{mask_open_in, session_of, ArePlanes, frame_in, IsSessionIn}
@@ -274,7 +275,7 @@ is_plane role p s m = record {
 }
 
 stands : (role : Role) (p : PlaneOf) (rest : List ℕ) → IsPlane role p → IsPlaneIn role (plane_text p ++ rest) p rest
-stands role p rest i = (plane_text p, refl, (Raw, written_is_read role p rest i))
+stands role p rest i = (plane_text p, refl, (Raw, written_is_read (sought_within Tiled role) p rest i))
 
 raster_short : (wide : Bool) (vs : List ℕ) → length (raster_text wide vs) ≤ 2 * length vs
 raster_short wide [] = omega arith
@@ -319,11 +320,11 @@ module _ (session : Session) (fits : session.scene.weights.maxval < 2 ^ 16) wher
   abbrev side : ℕ
   side = session.scene.tiling.side
 
-  frame : frame_of session.scene.tiling ≡ frame_in side phase
+  frame : frame_of_tiling session.scene.tiling ≡ frame_in side phase
   frame = frame_is session.scene.tiling phase side session.scene.same_width.1 session.scene.same_height.1 refl
 
-  tiles : (frame_in side phase).tiles ≡ tiles_of session.scene.tiling
-  tiles = ap (λ (f : Frame). f.tiles) (sym frame)
+  tiles : (frame_in side phase).changed ≡ tiles_of session.scene.tiling
+  tiles = ap (λ (f : Frame). f.changed) (sym frame)
 
   within : AreWithinLimits (frame_in side phase) sections
   within = record {
@@ -379,7 +380,7 @@ module _ (session : Session) (fits : session.scene.weights.maxval < 2 ^ 16) wher
     ends = ends;
   })
 
-  planes_are : (behind : List ℕ) → ArePlanes (plane_text phase ++ (plane_text weights ++ (mask_text session.first_mask ++ behind))) phase weights (mask_plane session.first_mask) behind
+  planes_are : (behind : List ℕ) → ArePlanes Tiled (plane_text phase ++ (plane_text weights ++ (mask_text session.first_mask ++ behind))) phase weights (mask_plane session.first_mask) behind
   planes_are behind = record {
     behind_phase = plane_text weights ++ (mask_text session.first_mask ++ behind);
     behind_weights = mask_text session.first_mask ++ behind;

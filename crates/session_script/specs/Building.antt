@@ -9,6 +9,7 @@ use Rattle.session_script.specs.declared.word.Word.{Word}
 use Rattle.session_script.specs.Lines.{Spells, SpellsNone}
 use Rattle.std.specs.Global.{Vec}
 use Rattle.edge_weights.specs.declared.parts.SessionParts.{SessionParts}
+use Rattle.edge_weights.specs.declared.whole.WholeParts.{WholeParts}
 use Rattle.raster_model.specs.declared.script.Script.{Script}
 use Rattle.pgm_planes.specs.Planes.{plane_of}
 use Rattle.session_script.specs.declared.parts.Planes.{Planes}
@@ -27,6 +28,9 @@ planes_in read = three (plane_of read.phase) (plane_of read.weights) (plane_of r
 
 abbrev pub parts_read : SessionParts → ThreePlanes × Sections
 parts_read parts = (three (plane_of parts.phase) (plane_of parts.weights) (plane_of parts.mask), scripts_in parts.scripts)
+
+abbrev pub whole_parts_read : WholeParts → ThreePlanes × Sections
+whole_parts_read parts = (three (plane_of parts.phase) (plane_of parts.weights) (plane_of parts.mask), scripts_in parts.scripts)
 
 -- a read of a line put no more bytes than these
 abbrev pub FitsIn : Line → List ℕ → Type 0

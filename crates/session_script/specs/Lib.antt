@@ -12,3 +12,4 @@ pub mod Making
 pub mod Outcomes
 pub mod Text
 pub mod Laws
+pub mod Layouts

@@ -1,13 +1,13 @@
 -- A session made of planes and scripts: words of helpers, which no clause of a public function cites.
-use Rattle.std.specs.Prelude.{◌≡◌, ℕ, Result, Ok, Err}
+use Rattle.std.specs.Prelude.{◌≡◌, Result, Ok, Err}
 use Rattle.insar_ports.specs.Calls.{Call}
-use Rattle.raster_model.specs.declared.session.Session.{Session}
 use Rattle.raster_model.specs.Masks.{IsMaskOf}
 use Rattle.session_script.specs.declared.fault.SessionFault.{SessionFault}
 use Rattle.session_script.specs.declared.session_use.SessionUse.{SessionUse}
+use Rattle.session_script.specs.Layouts.{Layout}
 use Rattle.session_script.specs.Parsing.{ThreePlanes, IsOutcome, session_parser}
 use Rattle.session_script.specs.Sections.{Sections}
-use Rattle.session_script.specs.Sessions.{SessionOf, session_of, mask_open_in}
+use Rattle.session_script.specs.Sessions.{SessionOf, mask_open_in}
 
 -- the session is made of these planes and scripts
 pub record IsMadeOf (read : ThreePlanes × Sections) (session : SessionOf) : Type 0 where
@@ -20,6 +20,6 @@ abbrev pub as_read : ThreePlanes × Sections → ThreePlanes × Sections
 as_read read = read
 
 -- a session is made of what the parser gives, or the call's outcome is its fault
-abbrev pub IsParsedSession : SessionUse → ℕ → Call → Result Session SessionFault → Type 0
-IsParsedSession usage side call (Ok session) = (read : ThreePlanes × Sections) × IsMadeOf read (session_of session) × IsOutcome as_read (Ok read) call (session_parser usage side)
-IsParsedSession usage side call (Err fault) = IsOutcome as_read (Err fault) call (session_parser usage side)
+abbrev pub IsParsedSession : {X : Type 0} → (X → SessionOf) → SessionUse → Layout → Call → Result X SessionFault → Type 0
+IsParsedSession view usage layout call (Ok session) = (read : ThreePlanes × Sections) × IsMadeOf read (view session) × IsOutcome as_read (Ok read) call (session_parser usage layout)
+IsParsedSession view usage layout call (Err fault) = IsOutcome as_read (Err fault) call (session_parser usage layout)

@@ -8,10 +8,12 @@ use Rattle.pgm_planes.specs.declared.fault.InputFault.{InputFault}
 use Rattle.pgm_planes.specs.declared.fault.InputFault.TheVariants.{TooLong, Plane, SizesDiffer, ScriptLine, NoEnd, AfterEnd}
 use Rattle.pgm_planes.specs.declared.fault.Role.{Role}
 use Rattle.pgm_planes.specs.declared.fault.Role.TheVariants.{Phase, Weight, Mask}
-use Rattle.pgm_planes.specs.Planes.{PlaneOf}
-use Rattle.pgm_planes.specs.Reading.{Reading, Told, plane_at}
+use Rattle.pgm_planes.specs.declared.extent.Extent.{Extent}
+use Rattle.pgm_planes.specs.Planes.{PlaneOf, Sought, sought_within}
+use Rattle.pgm_planes.specs.Reading.{Reading, Told, sought_at}
 use Rattle.session_script.specs.declared.fault.SessionFault.{SessionFault}
 use Rattle.session_script.specs.declared.fault.SessionFault.TheVariants.{Input, ReadFault, Memory}
+use Rattle.session_script.specs.declared.sections.TheConstants.{MAX_SECTION_LINES}
 use Rattle.session_script.specs.declared.session_use.SessionUse.{SessionUse}
 use Rattle.session_script.specs.declared.session_use.SessionUse.TheVariants.{Alone, BeforeReport}
 use Rattle.session_script.specs.declared.word.Word.{Word}
@@ -19,7 +21,8 @@ use Rattle.session_script.specs.declared.word.Word.TheVariants as words
 use Rattle.session_script.specs.Fields.{word_in}
 use Rattle.session_script.specs.Sections.{Sections, Frame, line_count, word_broken, with_command, with_word}
 use Rattle.session_script.specs.Scripts.{usual, meant}
-use Rattle.session_script.specs.Sessions.{ones_of, is_p, frame_in}
+use Rattle.session_script.specs.Layouts.{Layout, extent_of}
+use Rattle.session_script.specs.Sessions.{ones_of, is_p, frame_laid}
 
 -- a value, the place after it and the bytes from there; or a fault
 abbrev pub Parse : Type 0 → Type 0
@@ -75,9 +78,9 @@ unfoldable pub sections_parser : Frame → ℕ → Sections → Parser Sections
 sections_parser frame zero ss = fails NoEnd
 sections_parser frame (suc k) ss = chain (line_parser (line_count ss + 1) []) (λ w. on_word (sections_parser frame k) ss w (word_broken frame (line_count ss + 1) ss w))
 
--- sections within the limits have 32,776 lines at most, and the line `end` follows
+-- the most lines of sections within the limits, and the line `end`
 abbrev pub most_lines : ℕ
-most_lines = 32777
+most_lines = MAX_SECTION_LINES + 1
 
 abbrev pub lines_parser : Frame → Parser Sections
 lines_parser frame = sections_parser frame most_lines []
@@ -104,8 +107,8 @@ as_parse role (Ok x) = Ok x
 as_parse role (Err (Some fault)) = Err (Plane role fault)
 as_parse role (Err None) = Err TooLong
 
-abbrev pub plane_parser : Role → Parser PlaneOf
-plane_parser role more at bytes = as_parse role (plane_at role more at bytes)
+abbrev pub plane_parser : Sought → Parser PlaneOf
+plane_parser sought more at bytes = as_parse sought.role (sought_at sought more at bytes)
 
 abbrev pub has_size : PlaneOf → PlaneOf → Bool
 has_size p q = (q.width == p.width) && (q.height == p.height)
@@ -121,12 +124,12 @@ abbrev pub is_begun : Option ℕ → Bool
 is_begun None = false
 is_begun (Some b) = is_p b
 
-abbrev pub later_plane : Role → PlaneOf → Bool → Parser PlaneOf
-later_plane role phase true = chain (plane_parser role) (if_sized role phase)
-later_plane role phase false = parsed (ones_of phase)
+abbrev pub later_plane : Sought → PlaneOf → Bool → Parser PlaneOf
+later_plane sought phase true = chain (plane_parser sought) (if_sized sought.role phase)
+later_plane sought phase false = parsed (ones_of phase)
 
-abbrev pub later_parser : Role → PlaneOf → Parser PlaneOf
-later_parser role phase = chain peek_parser (λ got. later_plane role phase (is_begun got))
+abbrev pub later_parser : Sought → PlaneOf → Parser PlaneOf
+later_parser sought phase = chain peek_parser (λ got. later_plane sought phase (is_begun got))
 
 pub record ThreePlanes : Type 0 where
   pub phase : PlaneOf
@@ -136,13 +139,13 @@ pub record ThreePlanes : Type 0 where
 abbrev pub three : PlaneOf → PlaneOf → PlaneOf → ThreePlanes
 three phase weights mask = record { phase = phase; weights = weights; mask = mask }
 
-abbrev pub planes_parser : Parser ThreePlanes
-planes_parser = chain (plane_parser Phase) (λ p. chain (later_parser Weight p) (λ w. chain (later_parser Mask p) (λ m. parsed (three p w m))))
+abbrev pub planes_parser : Extent → Parser ThreePlanes
+planes_parser extent = chain (plane_parser (sought_within extent Phase)) (λ p. chain (later_parser (sought_within extent Weight) p) (λ w. chain (later_parser (sought_within extent Mask) p) (λ m. parsed (three p w m))))
 
 -- ---- a session
 
-abbrev pub session_parser : SessionUse → ℕ → Parser (ThreePlanes × Sections)
-session_parser usage side = chain planes_parser (λ p. chain (script_parser (frame_in side p.phase) usage) (λ ss. parsed (p, ss)))
+abbrev pub session_parser : SessionUse → Layout → Parser (ThreePlanes × Sections)
+session_parser usage layout = chain (planes_parser (extent_of layout)) (λ p. chain (script_parser (frame_laid layout p.phase) usage) (λ ss. parsed (p, ss)))
 
 -- ---- calls on a feed
 

@@ -10,6 +10,7 @@ use Rattle.raster_model.specs.Scripts.{CommandsFit, is_settle, is_change, rect_o
 use Rattle.raster_model.specs.Tiles.{tiles_of}
 use Rattle.pgm_planes.specs.declared.fault.InputFault.{InputFault}
 use Rattle.pgm_planes.specs.declared.fault.InputFault.TheVariants.{ScriptLine, Outside, TooManyAnalysts, TooManyCommands, SettleLimit, EditLimit}
+use Rattle.session_script.specs.declared.frame.ScriptFrame.{ScriptFrame}
 use Rattle.session_script.specs.declared.word.Word.{Word}
 use Rattle.session_script.specs.declared.word.Word.TheVariants as words
 use Rattle.raster_model.specs.Limits.{max_changed_tiles, max_commands, max_settled_pixels}
@@ -41,22 +42,32 @@ settles_of sections = sum_by (count_by is_settle) sections
 abbrev pub changes_of : Sections → ℕ
 changes_of sections = sum_by (count_by is_change) sections
 
--- the raster that the scripts are for: its size, and its number of tiles
+-- the raster that the scripts are for: its size, how many pixels a settle command settles, and how many tiles a change
+-- command changes
 pub record Frame : Type 0 where
   pub width : ℕ
   pub height : ℕ
-  pub tiles : ℕ
+  pub settled : ℕ
+  pub changed : ℕ
 
-abbrev pub frame_of : Tiling → Frame
-frame_of tiling = record { width = tiling.width; height = tiling.height; tiles = tiles_of tiling }
+abbrev pub frame_of : ScriptFrame → Frame
+frame_of frame = record { width = frame.width; height = frame.height; settled = frame.settled; changed = frame.changed }
+
+-- the raster of a tiling, all of whose pixels a settle command settles, and all of whose tiles a change command may change
+abbrev pub frame_of_tiling : Tiling → Frame
+frame_of_tiling tiling = record { width = tiling.width; height = tiling.height; settled = tiling.width * tiling.height; changed = tiles_of tiling }
+
+-- a raster without tiles, whose scripts are not run: their commands count nothing
+abbrev pub whole_frame : ℕ → ℕ → Frame
+whole_frame width height = record { width = width; height = height; settled = 0; changed = 0 }
 
 -- within the limits of a session
 pub record AreWithinLimits (frame : Frame) (sections : Sections) : Type 0 where
   pub analysts : length sections ≤ 8
   pub short : AllByRecursion (λ commands. length commands ≤ max_commands) sections
   pub inside : AllByRecursion (CommandsFit frame.width frame.height) sections
-  pub settles : settles_of sections * (frame.width * frame.height) ≤ max_settled_pixels
-  pub changes : changes_of sections * frame.tiles ≤ max_changed_tiles
+  pub settles : settles_of sections * frame.settled ≤ max_settled_pixels
+  pub changes : changes_of sections * frame.changed ≤ max_changed_tiles
 
 -- and not without an analyst
 abbrev pub AreComplete : Frame → Sections → Type 0
@@ -73,8 +84,8 @@ last_commands sections = slice_index_or sections (length sections - 1) []
 -- What is wrong with a command in line n after some sections: it belongs to no analyst, its analyst has 4096 commands
 -- already, its rectangle does not lie in the raster, or it passes a limit of all analysts. The first of these is told.
 abbrev pub limit_broken : Frame → ℕ → Sections → Command → Option InputFault
-limit_broken frame n sections (Change edit) = if not (lies_in frame (rect_of edit)) then Some (Outside n) else (if nat_lt max_changed_tiles ((changes_of sections + 1) * frame.tiles) then Some (EditLimit n) else None)
-limit_broken frame n sections Settle = if nat_lt max_settled_pixels ((settles_of sections + 1) * (frame.width * frame.height)) then Some (SettleLimit n) else None
+limit_broken frame n sections (Change edit) = if not (lies_in frame (rect_of edit)) then Some (Outside n) else (if nat_lt max_changed_tiles ((changes_of sections + 1) * frame.changed) then Some (EditLimit n) else None)
+limit_broken frame n sections Settle = if nat_lt max_settled_pixels ((settles_of sections + 1) * frame.settled) then Some (SettleLimit n) else None
 limit_broken frame n sections Show = None
 
 abbrev pub command_broken : Frame → ℕ → Sections → Command → Option InputFault

@@ -3,8 +3,8 @@ ghost use Rattle.raster_model.specs.Weights.{AreRuleWeights};
 ghost use Rattle.std.specs.Prelude.{IfOk, ⊤};
 ghost use Rattle.std.specs.Thread.{IsSync};
 
-use edge_weights::{SessionParts, weigh, weigh_side_by_side};
-use raster_model::{EdgeWeights, Mask, RuleKind};
+use edge_weights::{weigh, weigh_side_by_side};
+use raster_model::{EdgeWeights, Mask, Plane, RuleKind};
 use std::alloc::{AllocError, Global};
 use std::thread::{Threads, join_mut};
 
@@ -18,11 +18,12 @@ pub(crate) trait Maker {
         &self,
         alloc: Global,
         kind: RuleKind,
-        parts: &SessionParts,
+        weights: &Plane,
+        mask: &Plane,
     ) -> (Result<EdgeWeights, AllocError>, Result<Mask, AllocError>)
         requires { ready self.now }
-        ensures edges { IfOk result.0 (AreRuleWeights kind parts.now.weights) }
-        ensures mask { IfOk result.1 (λ mask. IsMaskOf mask parts.now.mask.width parts.now.mask.height (open_by parts.now.mask)) };
+        ensures edges { IfOk result.0 (AreRuleWeights kind weights.now) }
+        ensures mask { IfOk result.1 (λ made. IsMaskOf made mask.now.width mask.now.height (open_by mask.now)) };
 }
 
 /// One thread.
@@ -36,12 +37,10 @@ impl Maker for OneThread {
         &self,
         alloc: Global,
         kind: RuleKind,
-        parts: &SessionParts,
+        weights: &Plane,
+        mask: &Plane,
     ) -> (Result<EdgeWeights, AllocError>, Result<Mask, AllocError>) {
-        (
-            weigh(alloc, kind, &parts.weights),
-            Mask::of_plane(alloc, &parts.mask),
-        )
+        (weigh(alloc, kind, weights), Mask::of_plane(alloc, mask))
     }
 }
 
@@ -58,9 +57,10 @@ impl<R: Threads + Sync> Maker for SideBySide<'_, R> {
         &self,
         alloc: Global,
         kind: RuleKind,
-        parts: &SessionParts,
+        weights: &Plane,
+        mask: &Plane,
     ) -> (Result<EdgeWeights, AllocError>, Result<Mask, AllocError>) {
-        weighed_beside_mask(self.rt, alloc, kind, parts)
+        weighed_beside_mask(self.rt, alloc, kind, weights, mask)
     }
 }
 
@@ -69,12 +69,12 @@ fn weighed_beside_mask<R: Threads + Sync>(
     rt: &R,
     alloc: Global,
     kind: RuleKind,
-    parts: &SessionParts,
+    weights: &Plane,
+    mask: &Plane,
 ) -> (Result<EdgeWeights, AllocError>, Result<Mask, AllocError>)
-    ensures edges { IfOk result.0 (AreRuleWeights kind parts.now.weights) }
-    ensures mask { IfOk result.1 (λ mask. IsMaskOf mask parts.now.mask.width parts.now.mask.height (open_by parts.now.mask)) }
+    ensures edges { IfOk result.0 (AreRuleWeights kind weights.now) }
+    ensures mask { IfOk result.1 (λ made. IsMaskOf made mask.now.width mask.now.height (open_by mask.now)) }
 {
-    let SessionParts { weights, mask, .. } = parts;
     join_mut(
         rt,
         &mut || -> Result<EdgeWeights, AllocError>

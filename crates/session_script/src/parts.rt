@@ -1,4 +1,4 @@
-ghost use Rattle.pgm_planes.specs.Planes.{IsSize};
+ghost use Rattle.pgm_planes.specs.Planes.{max_sample};
 ghost use Rattle.std.specs.Prelude.{◌≡◌};
 
 use raster_model::Plane;
@@ -12,8 +12,7 @@ pub struct Planes {
     pub weights: Plane,
     /// 0 at masked pixels.
     pub mask: Plane,
-    pub ghost cycle: { phase.maxval ≡ 65535 },
+    pub ghost cycle: { phase.maxval ≡ max_sample },
     pub ghost same_width: { (weights.width ≡ phase.width) × (mask.width ≡ phase.width) },
     pub ghost same_height: { (weights.height ≡ phase.height) × (mask.height ≡ phase.height) },
-    pub ghost sized: { IsSize phase.width phase.height },
 }

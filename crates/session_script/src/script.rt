@@ -9,6 +9,7 @@ ghost use Rattle.session_script.specs.declared.session_use.SessionUse.TheVariant
 ghost use Rattle.std.specs.Prelude.{◌≡◌, ◌<◌, [], IfErr, IfOk, OnOk};
 
 use crate::fault::SessionFault;
+use crate::frame::ScriptFrame;
 use crate::line::word_of;
 use crate::planes::see_byte;
 use crate::sections::Sections;
@@ -16,7 +17,7 @@ use crate::session_use::SessionUse;
 use crate::word::Word;
 use insar_ports::{Feed, Line, Source};
 use pgm_planes::InputFault;
-use raster_model::{Command, Script, Tiling};
+use raster_model::{Command, Script};
 use std::alloc::Global;
 
 /// The most bytes of a line, without its line feed.
@@ -54,17 +55,17 @@ fn judged(found: Line, line: &[u8], number: u32) -> Result<Word, SessionFault>
 fn read_sections<S: Source>(
     alloc: Global,
     feed: &mut Feed<S>,
-    tiling: &Tiling,
+    frame: &ScriptFrame,
 ) -> Result<Sections, SessionFault>
     ensures same_source { source_name feed.new ≡ source_name feed.old }
     ensures limit { limit_of feed.new ≡ limit_of feed.old }
-    ensures within { IfOk result (λ sections. AreWithinLimits (frame_of tiling.now) (sections_in sections)) }
-    ensures parses { Parses sections_in result (call_of S.left S.faults feed.old feed.new) (lines_parser (frame_of tiling.now)) }
+    ensures within { IfOk result (λ sections. AreWithinLimits (frame_of frame.now) (sections_in sections)) }
+    ensures parses { Parses sections_in result (call_of S.left S.faults feed.old feed.new) (lines_parser (frame_of frame.now)) }
 {
     let mut sections = Sections::new(alloc);
     loop {
         let word = read_word(feed, sections.lines() + 1)?;
-        if let Some(fault) = sections.refusal(tiling, word) {
+        if let Some(fault) = sections.refusal(frame, word) {
             return Err(SessionFault::Input(fault));
         }
         match word {
@@ -80,17 +81,17 @@ pub fn read_scripts<S: Source>(
     alloc: Global,
     feed: &mut Feed<S>,
     usage: SessionUse,
-    tiling: &Tiling,
+    frame: &ScriptFrame,
 ) -> Result<Vec<Script>, SessionFault>
     ensures same_source { source_name feed.new ≡ source_name feed.old }
     ensures limit { limit_of feed.new ≡ limit_of feed.old }
-    ensures within { IfOk result (λ scripts. AreComplete (frame_of tiling.now) (scripts_in scripts)) }
-    ensures parses { Parses scripts_in result (call_of S.left S.faults feed.old feed.new) (script_parser (frame_of tiling.now) usage) }
+    ensures within { IfOk result (λ scripts. AreComplete (frame_of frame.now) (scripts_in scripts)) }
+    ensures parses { Parses scripts_in result (call_of S.left S.faults feed.old feed.new) (script_parser (frame_of frame.now) usage) }
 {
     match usage {
-        SessionUse::Alone => read_alone(alloc, feed, tiling),
+        SessionUse::Alone => read_alone(alloc, feed, frame),
         SessionUse::BeforeReport => {
-            let sections = read_sections(alloc, feed, tiling)?;
+            let sections = read_sections(alloc, feed, frame)?;
             meant_scripts(alloc, sections)
         }
     }
@@ -101,17 +102,17 @@ pub fn read_scripts<S: Source>(
 fn read_alone<S: Source>(
     alloc: Global,
     feed: &mut Feed<S>,
-    tiling: &Tiling,
+    frame: &ScriptFrame,
 ) -> Result<Vec<Script>, SessionFault>
     ensures same_source { source_name feed.new ≡ source_name feed.old }
     ensures limit { limit_of feed.new ≡ limit_of feed.old }
-    ensures within { IfOk result (λ scripts. AreComplete (frame_of tiling.now) (scripts_in scripts)) }
-    ensures parses { Parses scripts_in result (call_of S.left S.faults feed.old feed.new) (script_parser (frame_of tiling.now) Alone) }
+    ensures within { IfOk result (λ scripts. AreComplete (frame_of frame.now) (scripts_in scripts)) }
+    ensures parses { Parses scripts_in result (call_of S.left S.faults feed.old feed.new) (script_parser (frame_of frame.now) Alone) }
 {
     let Some(_) = see_byte(feed)? else {
         return usual_scripts(alloc);
     };
-    let sections = read_sections(alloc, feed, tiling)?;
+    let sections = read_sections(alloc, feed, frame)?;
     let place = feed.handed();
     match see_byte(feed)? {
         None => meant_scripts(alloc, sections),

@@ -11,12 +11,14 @@ ghost use Rattle.session_script.specs.Sessions.{session_of};
 ghost use Rattle.std.specs.Prelude.{◌≡◌, IfErr, IfOk};
 
 use crate::fault::SessionFault;
+use crate::frame::ScriptFrame;
 use crate::maker::{Maker, OneThread, SideBySide};
 use crate::planes::read_planes;
 use crate::script::read_scripts;
 use crate::session_use::SessionUse;
 use edge_weights::{SceneSettings, SessionParts};
 use insar_ports::{Feed, Source};
+use pgm_planes::Extent;
 use raster_model::{RuleKind, Session, Tiling};
 use std::alloc::Global;
 use std::thread::Threads;
@@ -101,9 +103,10 @@ fn read_by<M: Maker, S: Source>(
     ensures outcome { IsSessionOutcome use_as settings.side (call_of S.left S.faults feed.old feed.new) result }
     ensures settings { IfOk result (λ session. HasSettings settings session.scene) }
 {
-    let planes = read_planes(alloc, feed)?;
+    let planes = read_planes(alloc, feed, Extent::Tiled)?;
     let tiling = Tiling::new(planes.phase.width, planes.phase.height, settings.side);
-    let scripts = read_scripts(alloc, feed, use_as, &tiling)?;
+    let frame = ScriptFrame::of_tiling(&tiling);
+    let scripts = read_scripts(alloc, feed, use_as, &frame)?;
     let parts = SessionParts {
         phase: planes.phase,
         weights: planes.weights,
@@ -127,7 +130,12 @@ fn made_of<M: Maker>(
     ensures settings { IfOk result (λ session. HasSettings settings session.scene) }
     ensures starved { IfErr result (λ fault. fault ≡ session_faults.Memory) }
 {
-    let (edges, first_mask) = maker.edges_and_mask(alloc, settings.rule, &parts);
+    let (edges, first_mask) = maker.edges_and_mask(
+        alloc,
+        settings.rule,
+        &parts.weights,
+        &parts.mask,
+    );
     let edges = edges?;
     let first_mask = first_mask?;
     Ok(parts.put_together(settings, edges, first_mask))

@@ -1,5 +1,5 @@
 use Rattle.std.proofs.Common.{◌≡◌, ◌∙◌, false, sym, rules}
-use Rattle.pgm_planes.specs.Planes.{plane_of}
+use Rattle.pgm_planes.specs.Planes.{plane_of, sought_within}
 use Rattle.pgm_planes.specs.declared.fault.InputFault.TheVariants.{SizesDiffer}
 use Rattle.session_script.specs.Parsing.{has_size}
 use Rattle.session_script.specs.Sessions.{HasPlaneSize, ones_of}
@@ -14,7 +14,7 @@ returns-in_err-see_byte-clause-parses g c = fails _ _ c.from_residual.ensures.1 
 pub returns-in_err-plane-clause-parses : goal.returns-in_err-plane-clause-parses
 returns-in_err-plane-clause-parses g c =
     goes _ _ c.in_ok-see_byte.ensures.parses c.in_ok-see_byte.ensures.limit
-    (rw (sym c.begins_plane.ensures ∙ c.if-not-begins_plane.false) (fails _ _ c.from_residual-in_err-plane.ensures.1 (of_plane c.args.role _ _ _ c.read_plane.ensures.reads c.in_err-plane.ensures)))
+    (rw (sym c.begins_plane.ensures ∙ c.if-not-begins_plane.false) (fails _ _ c.from_residual-in_err-plane.ensures.1 (of_plane (sought_within c.args.extent c.args.role) _ _ _ c.read_plane_within.ensures.reads c.in_err-plane.ensures)))
 
 pub returns-then-plane-phase-clause-parses : goal.returns-then-plane-phase-clause-parses
 returns-then-plane-phase-clause-parses g c =
@@ -23,13 +23,13 @@ returns-then-plane-phase-clause-parses g c =
       | then-plane-phase-via-else-plane-phase+then-plane-phase-2 w ↦ w.if-plane-phase-2.true h.1
     ]) in
     goes _ _ c.in_ok-see_byte.ensures.parses c.in_ok-see_byte.ensures.limit
-    (rw (sym c.begins_plane.ensures ∙ c.if-not-begins_plane.false) (goes _ _ (of_plane c.args.role _ _ _ c.read_plane.ensures.reads c.in_ok-plane.ensures) c.read_plane.ensures.limit (rw other (refuses (λ _. SizesDiffer c.args.role) (λ e. cc)))))
+    (rw (sym c.begins_plane.ensures ∙ c.if-not-begins_plane.false) (goes _ _ (of_plane (sought_within c.args.extent c.args.role) _ _ _ c.read_plane_within.ensures.reads c.in_ok-plane.ensures) c.read_plane_within.ensures.limit (rw other (refuses (λ _. SizesDiffer c.args.role) (λ e. cc)))))
 
 pub returns-clause-parses : goal.returns-clause-parses
 returns-clause-parses g c =
     let same : HasPlaneSize (plane_of c.args.phase.now) (plane_of c.in_ok-plane.plane) = search rules in
     goes _ _ c.in_ok-see_byte.ensures.parses c.in_ok-see_byte.ensures.limit
-    (rw (sym c.begins_plane.ensures ∙ c.if-not-begins_plane.false) (goes _ _ (of_plane c.args.role _ _ _ c.read_plane.ensures.reads c.in_ok-plane.ensures) c.read_plane.ensures.limit (rw (size_told (plane_of c.args.phase.now) (plane_of c.in_ok-plane.plane) same) (gives _))))
+    (rw (sym c.begins_plane.ensures ∙ c.if-not-begins_plane.false) (goes _ _ (of_plane (sought_within c.args.extent c.args.role) _ _ _ c.read_plane_within.ensures.reads c.in_ok-plane.ensures) c.read_plane_within.ensures.limit (rw (size_told (plane_of c.args.phase.now) (plane_of c.in_ok-plane.plane) same) (gives _))))
 
 pub returns-then-not-begins_plane-clause-parses : goal.returns-then-not-begins_plane-clause-parses
 returns-then-not-begins_plane-clause-parses g c =

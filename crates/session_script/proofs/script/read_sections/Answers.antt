@@ -18,7 +18,7 @@ returns-in-Some-clause-parses g c =
     let i = c.loop-sections.invariant in
     let broken = sym c.refusal.ensures ∙ c.in-Some.is in
     let ss = sections_in c.loop-sections.sections in
-    let never : is_at_end c.in-Some.fault ≡ false = word_never (frame_of c.args.tiling.now) (line_count ss + 1) ss c.in_ok-word.word c.in-Some.fault broken in
+    let never : is_at_end c.in-Some.fault ≡ false = word_never (frame_of c.args.frame.now) (line_count ss + 1) ss c.in_ok-word.word c.in-Some.fault broken in
     then _ (by_lines _ _ _ _ i.within i.leads) i.limit
     (goes _ _ (rw c.lines.ensures at c.in_ok-word.ensures.parses) c.in_ok-word.ensures.limit (rw broken (refuses (λ _. c.in-Some.fault) (λ e. let k : is_at_end c.in-Some.fault ≡ true = ap is_at_end e in cc))))
 
@@ -36,7 +36,7 @@ returns-in_err-push-in_default-word-clause-parses g c =
 pub loop-sections-preserved : goal.loop-sections-preserved
 loop-sections-preserved g c =
     let ss = sections_in c.loop-sections.sections in
-    let f = frame_of c.args.tiling.now in
+    let f = frame_of c.args.frame.now in
     let w = c.in_ok-word.word in
     let allowed : word_broken f (line_count ss + 1) ss w ≡ None = sym c.refusal.ensures ∙ c.in_default.is in
     let now : sections_in c.push.new.self ≡ with_word w ss = c.in_ok-push-in_default-word.ensures in
@@ -53,7 +53,7 @@ pub loop-sections-init : goal.loop-sections-init
 loop-sections-init g c = rw c.new-sections.ensures (record {
   same_source = refl;
   limit = refl;
-  leads = still (lines_parser (frame_of c.args.tiling.now)) _ refl refl (omega arith);
-  within = none_within (frame_of c.args.tiling.now);
+  leads = still (lines_parser (frame_of c.args.frame.now)) _ refl refl (omega arith);
+  within = none_within (frame_of c.args.frame.now);
   few = omega arith;
 })

@@ -12,8 +12,8 @@ abbrev pub invariant-loop-sections : goal.invariant-loop-sections
 invariant-loop-sections g l = record {
   same_source : source_name l.feed ≡ source_name l.fn.feed;
   limit : limit_of l.feed ≡ limit_of l.fn.feed;
-  leads : Leads (call_of g.S.Source.left g.S.Source.faults l.fn.feed l.feed) (lines_parser (frame_of l.fn.tiling)) (lines_after (frame_of l.fn.tiling) (sections_in l.sections));
-  within : AreWithinLimits (frame_of l.fn.tiling) (sections_in l.sections);
+  leads : Leads (call_of g.S.Source.left g.S.Source.faults l.fn.feed l.feed) (lines_parser (frame_of l.fn.frame)) (lines_after (frame_of l.fn.frame) (sections_in l.sections));
+  within : AreWithinLimits (frame_of l.fn.frame) (sections_in l.sections);
   few : line_count (sections_in l.sections) ≤ 32776;
 }
 

@@ -1,7 +1,6 @@
 -- Grids by their texts, and what the first broken line and the text say of the answer of a reader.
 use Rattle.std.proofs.Common.{◌≡◌, ℕ, ◌+◌, ◌-◌, ◌<◌, ◌≤◌, List, [], ◌∷◌, ◌++◌, length, Option, Some, None, Result, Ok, Err, inl, inr, refl, sym, ap, subst, ◌∙◌, append_assoc, arith}
-use Rattle.std.specs.Prelude.{IfErr, IfOk, IfSome}
-use Rattle.std.proofs.lemmas.Result.{IfErr-weaker}
+use Rattle.std.specs.Prelude.{IfErr, IfOk, IfSome, IsTrue, ℤ}
 use Rattle.std.proofs.lemmas.List.{append_cancel_left, append-nil, length-append}
 use Rattle.insar_ports.specs.Bytes.{HasMore}
 use Rattle.insar_ports.specs.Calls.{Call, Takes}
@@ -15,35 +14,27 @@ use Rattle.text_lines.proofs.BreakLemmas.{begins_if_needs, cause_stop, stop_of}
 use Rattle.text_lines.proofs.FirstLemmas.{StopsIn, not_both, one_stop, stops_cut, text_past}
 use Rattle.text_lines.proofs.FormLemmas.{fronts, whole_append}
 use Rattle.text_lines.proofs.SeqLemmas.{IsCode, code_unique}
-use Rattle.text_lines.proofs.StepLemmas.{cause_same, joined, second, texts_are, texts_join}
-use Rattle.grid_writer.specs.declared.read.Sizes.{Sizes}
+use Rattle.text_lines.proofs.StepLemmas.{joined, second, texts_are, texts_join}
+use Rattle.raster_model.specs.Limits.{is_raster_size}
+use Rattle.raster_model.specs.Sums.{Field}
 use Rattle.grid_writer.specs.declared.values.Grid.{Grid}
 use Rattle.grid_writer.specs.Grid.{columns_line, frame_lines, grid_rows, grid_text, rows_line}
-use Rattle.grid_writer.specs.Grids.{GridOf, GridTextsAreUnique, IsGrid, IsGridText, IsSameGrid, grid_of, text_of_grid, value_at}
-use Rattle.grid_writer.specs.GridParts.{IsGridTextIn}
+use Rattle.grid_writer.specs.Grids.{AreLong, GridOf, GridTextsAreUnique, IsGrid, IsGridText, IsGridTextOf, IsSameGrid, grid_of, text_of_grid}
 use Rattle.grid_writer.specs.Reading.{IsGridRead, IsGridRefusedAt}
-use Rattle.grid_writer.proofs.HeadLemmas.{any_size, frame_whole, size_whole, sizes_cancel}
+use Rattle.grid_writer.proofs.HeadLemmas.{frame_whole, size_whole, sizes_cancel}
 use Rattle.grid_writer.proofs.RowsLemmas.{rows_cancel, rows_whole}
-use Rattle.grid_writer.proofs.SizeLemmas.{sized_parts}
+use Rattle.grid_writer.proofs.SizeLemmas.{WideSized, sized_parts, wide_parts, wide_sized}
 
 -- ---- what a reader of a grid took
 
-size_and_body : (w h : ℕ) (grid : Grid) → grid.width ≡ w → grid.height ≡ h → (columns_line w ++ rows_line h) ++ (frame_lines ++ grid_rows w h (value_at w grid.values.items)) ≡ text_of_grid (grid_of grid)
-size_and_body w h grid e f =
-    append_assoc (columns_line w) (rows_line h) (frame_lines ++ grid_rows w h (value_at w grid.values.items))
-    ∙ ap (λ (n : ℕ). grid_text w n (value_at w grid.values.items)) (sym f)
-    ∙ ap (λ (n : ℕ). grid_text n grid.height (value_at n grid.values.items)) (sym e)
+pub grid_read : (w h : ℕ) (values : Field ℤ) (a b : Call) (done here now : ℕ) → TakesLines (IsText (columns_line w ++ rows_line h)) done here a → TakesLines (IsText (frame_lines ++ grid_rows w h values)) here now (second a b) → TakesLines (IsText (grid_text w h values)) done now (joined a b)
+grid_read w h values a b done here now taken rest =
+    texts_are (joined a b) ((columns_line w ++ rows_line h) ++ (frame_lines ++ grid_rows w h values)) (grid_text w h values) done now (append_assoc (columns_line w) (rows_line h) (frame_lines ++ grid_rows w h values))
+    (texts_join a b (columns_line w ++ rows_line h) (frame_lines ++ grid_rows w h values) done here now taken rest)
 
-pub grid_read : (r : Result Grid LineFault) (w h : ℕ) (a b : Call) (done here now : ℕ) → IfOk r (λ grid. (grid.width ≡ w) × (grid.height ≡ h)) → TakesLines (IsText (columns_line w ++ rows_line h)) done here a
-    → IfOk r (λ grid. TakesLines (IsText (frame_lines ++ grid_rows w h (value_at w grid.values.items))) here now (second a b)) → IfOk r (λ grid. TakesLines (IsText (text_of_grid (grid_of grid))) done now (joined a b))
-grid_read (Err fault) w h a b done here now size taken rest = tt
-grid_read (Ok grid) w h a b done here now size taken rest =
-    texts_are (joined a b) ((columns_line w ++ rows_line h) ++ (frame_lines ++ grid_rows w h (value_at w grid.values.items))) (text_of_grid (grid_of grid)) done now (size_and_body w h grid size.0 size.1)
-    (texts_join a b (columns_line w ++ rows_line h) (frame_lines ++ grid_rows w h (value_at w grid.values.items)) done here now taken rest)
-
--- why no grid of any size was read
-pub any_refused : (s : Sizes) → s.least_width ≡ 1 → s.most_width ≡ 4096 → s.least_height ≡ 1 → s.most_height ≡ 4096 → (r : Result Grid LineFault) (done : ℕ) (c : Call) → done ≡ 0 → IfErr r (HasLineCause (IsGridTextIn s) done c) → IfErr r (HasLineCause IsGridText 0 c)
-any_refused s w v h g r done c e = IfErr-weaker r (HasLineCause (IsGridTextIn s) done c) (HasLineCause IsGridText 0 c) (λ fault cause. subst (λ (n : ℕ). HasLineCause IsGridText n c fault) e (cause_same (IsGridTextIn s) IsGridText (any_size s w v h g) c done fault cause))
+-- why no grid of any size was read, before any line
+pub none_refused : (r : Result Grid LineFault) (done : ℕ) (c : Call) → done ≡ 0 → IfErr r (HasLineCause IsGridText done c) → IfErr r (HasLineCause IsGridText 0 c)
+none_refused r done c e h = subst (λ (n : ℕ). IfErr r (HasLineCause IsGridText n c)) e h
 
 -- ---- grids by their texts
 
@@ -53,30 +44,43 @@ split_more w h f v r =
     ∙ ap (λ (l : List ℕ). columns_line w ++ l) (append_assoc (rows_line h) (f ++ v) r)
     ∙ ap (λ (l : List ℕ). columns_line w ++ (rows_line h ++ l)) (append_assoc f v r)
 
-pub grids_cancel : (g h : GridOf) (r s : List ℕ) → IsGrid g → IsGrid h → text_of_grid g ++ r ≡ text_of_grid h ++ s → IsSameGrid g h × (r ≡ s)
-grids_cancel g h r s p q e =
-    let same = sizes_cancel g.width g.height h.width h.height (frame_lines ++ (grid_rows g.width g.height g.values ++ r)) (frame_lines ++ (grid_rows h.width h.height h.values ++ s))
-    (sized_parts g.width g.height p.sized) (sized_parts h.width h.height q.sized)
+pub wide_cancel : (g h : GridOf) (r s : List ℕ) → WideSized g.width g.height → WideSized h.width h.height → AreLong g.width g.height g.values → AreLong h.width h.height h.values → text_of_grid g ++ r ≡ text_of_grid h ++ s → IsSameGrid g h × (r ≡ s)
+wide_cancel g h r s p q long others e =
+    let same = sizes_cancel g.width g.height h.width h.height (frame_lines ++ (grid_rows g.width g.height g.values ++ r)) (frame_lines ++ (grid_rows h.width h.height h.values ++ s)) p q
     (sym (split_more g.width g.height frame_lines (grid_rows g.width g.height g.values) r) ∙ e ∙ split_more h.width h.height frame_lines (grid_rows h.width h.height h.values) s) in
     let body = append_cancel_left frame_lines (grid_rows g.width g.height g.values ++ r) (grid_rows h.width h.height h.values ++ s) same.rest in
     let here : grid_rows g.width g.height g.values ++ r ≡ grid_rows g.width g.height h.values ++ s =
     body ∙ ap (λ (n : ℕ). grid_rows n h.height h.values ++ s) (sym same.width) ∙ ap (λ (n : ℕ). grid_rows g.width n h.values ++ s) (sym same.height) in
     let w_is = same.width in
     let h_is = same.height in
-    let t = rows_cancel g.width g.height g.values h.values r s p.fits (λ x y lx ly. q.fits x y (omega (arith, lx, w_is)) (omega (arith, ly, h_is))) here in
+    let t = rows_cancel g.width g.height g.values h.values r s long (λ x y lx ly. others x y (omega (arith, lx, w_is)) (omega (arith, ly, h_is))) here in
     (record { width = same.width; height = same.height; values = t.0 }, t.1)
+
+pub grids_cancel : (g h : GridOf) (r s : List ℕ) → IsGrid g → IsGrid h → text_of_grid g ++ r ≡ text_of_grid h ++ s → IsSameGrid g h × (r ≡ s)
+grids_cancel g h r s p q e = wide_cancel g h r s (wide_sized g.width g.height (sized_parts g.width g.height p.sized)) (wide_sized h.width h.height (sized_parts h.width h.height q.sized)) p.fits q.fits e
 
 pub grids_unique : GridTextsAreUnique
 grids_unique g h p q e = (grids_cancel g h [] [] p q (ap (λ (l : List ℕ). l ++ []) e)).0
 
+pub values_whole : (w h : ℕ) (values : Field ℤ) → AreWholeLines (grid_text w h values)
+values_whole w h values =
+    subst AreWholeLines (append_assoc (columns_line w) (rows_line h) (frame_lines ++ grid_rows w h values))
+    (whole_append (columns_line w ++ rows_line h) (frame_lines ++ grid_rows w h values) (size_whole w h) (whole_append frame_lines (grid_rows w h values) frame_whole (rows_whole w h values)))
+
 pub grid_whole : (t : List ℕ) → IsGridText t → AreWholeLines t
-grid_whole t (g, (p, e)) =
-    subst AreWholeLines (append_assoc (columns_line g.width) (rows_line g.height) (frame_lines ++ grid_rows g.width g.height g.values) ∙ sym e)
-    (whole_append (columns_line g.width ++ rows_line g.height) (frame_lines ++ grid_rows g.width g.height g.values) (size_whole g.width g.height)
-    (whole_append frame_lines (grid_rows g.width g.height g.values) frame_whole (rows_whole g.width g.height g.values)))
+grid_whole t (g, (p, e)) = subst AreWholeLines (sym e) (values_whole g.width g.height g.values)
 
 pub grid_free : (t m : List ℕ) → IsGridText t → IsGridText (t ++ m) → m ≡ []
 grid_free t m (g, (p, e)) (h, (q, f)) = (grids_cancel g h m [] p q (ap (λ (l : List ℕ). l ++ m) (sym e) ∙ f ∙ sym (append-nil (text_of_grid h)))).1
+
+-- the values of a size that is known
+pub known_code : (w h : ℕ) → IsTrue (is_raster_size w h) → IsCode (IsGridTextOf w h)
+known_code w h z =
+    let p = wide_parts w h z in
+    record {
+      whole = λ t (v, (long, e)). subst AreWholeLines (sym e) (values_whole w h v);
+      free = λ t m (v, (long, e)) (u, (others, f)). (wide_cancel (record { width = w; height = h; values = v }) (record { width = w; height = h; values = u }) m [] p p long others (ap (λ (l : List ℕ). l ++ m) (sym e) ∙ f ∙ sym (append-nil (grid_text w h u)))).1;
+    }
 
 pub grid_code : IsCode IsGridText
 grid_code = record { whole = grid_whole; free = grid_free }

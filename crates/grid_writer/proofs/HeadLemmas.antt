@@ -5,7 +5,7 @@ use Rattle.std.specs.Fmt.{decimal}
 use Rattle.std.proofs.lemmas.Fmt.{decimal_injective, length-decimal-le}
 use Rattle.std.proofs.lemmas.List.{append_cancel_left, append_cancel_right, append-nil, length-append, length-replicate}
 use Rattle.std.proofs.lemmas.List.Elements.{All-replicate}
-use Rattle.raster_model.specs.Limits.{is_tiled_size}
+use Rattle.raster_model.specs.Limits.{is_raster_size, is_tiled_size}
 use Rattle.raster_model.specs.Sums.{Field}
 use Rattle.text_lines.specs.Forms.{AreWholeLines, IsText}
 use Rattle.text_lines.specs.Numbers.{FitsLong, numbers_line}
@@ -18,7 +18,7 @@ use Rattle.grid_writer.specs.declared.read.Sizes.{Sizes}
 use Rattle.grid_writer.specs.Grid.{columns_line, frame_lines, grid_rows, grid_text, rows_line}
 use Rattle.grid_writer.specs.Grids.{AreLong, IsGridText, IsGridTextOf}
 use Rattle.grid_writer.specs.GridParts.{AreSizes, HasSizeWithin, IsBodyText, IsCount, IsCountLine, IsGridTextIn, IsRow, IsRowLine, IsRowsText}
-use Rattle.grid_writer.proofs.SizeLemmas.{Sized, most_rows, rows_below, sized_by, sized_parts, sized_within, some_rows, small_height, small_width, within_at}
+use Rattle.grid_writer.proofs.SizeLemmas.{WideSized, most_rows, rows_below, size_within, sized_by, sized_parts, sized_within, some_rows, small_height, small_width, wide_parts, within_at}
 
 -- ---- a line that tells a count
 
@@ -91,7 +91,7 @@ pub record SameSize (w h w' h' : ℕ) (x x' : List ℕ) : Type 0 where
   pub height : h ≡ h'
   pub rest : x ≡ x'
 
-pub sizes_cancel : (w h w' h' : ℕ) (x x' : List ℕ) → Sized w h → Sized w' h' → columns_line w ++ (rows_line h ++ x) ≡ columns_line w' ++ (rows_line h' ++ x') → SameSize w h w' h' x x'
+pub sizes_cancel : (w h w' h' : ℕ) (x x' : List ℕ) → WideSized w h → WideSized w' h' → columns_line w ++ (rows_line h ++ x) ≡ columns_line w' ++ (rows_line h' ++ x') → SameSize w h w' h' x x'
 sizes_cancel w h w' h' x x' s s' e =
     let p = columns_same w w' (rows_line h ++ x) (rows_line h' ++ x') (small_width w h s) (small_width w' h' s') e in
     let q = rows_same h h' x x' (small_height w h s) (small_height w' h' s') p.1 in
@@ -114,7 +114,7 @@ zero_fits : (w h : ℕ) → AreLong w h zero_field
 unfolding zero_field
 zero_fits w h x y lx ly = zero_long
 
-count_code : (label : List ℕ) (least most : ℕ) → InLine label → most ≤ 4096 → IsCode (IsCountLine label least most)
+count_code : (label : List ℕ) (least most : ℕ) → InLine label → most ≤ 65535 → IsCode (IsCountLine label least most)
 count_code label least most inside le = line_code (IsCount label least most) (count_inside label least most inside (omega (arith, le)))
 
 body_of : (w h w' h' : ℕ) (v : Field ℤ) (t : List ℕ) → w ≡ w' → h ≡ h' → AreLong w' h' v → t ≡ frame_lines ++ grid_rows w' h' v → IsBodyText w h t
@@ -123,8 +123,8 @@ body_of w h w' h' v t e f long g = rw (e, f) (v, (long, g))
 -- ---- a grid's lines in their order
 
 module _ (s : Sizes) (ok : AreSizes s) where
-  some_grid : (w h : ℕ) → Sized w h → HasSizeWithin s w h → IsGridTextIn s (grid_text w h zero_field)
-  some_grid w h z i = (record { width = w; height = h; values = zero_field }, (record { sized = sized_by w h z; fits = zero_fits w h }, (i, refl)))
+  some_grid : (w h : ℕ) → HasSizeWithin s w h → IsGridTextIn s (grid_text w h zero_field)
+  some_grid w h i = (record { width = w; height = h; values = zero_field }, (zero_fits w h, (i, refl)))
 
   pub grid_first : ComesFirst (IsCountLine (codes "ncols ") s.least_width s.most_width) (IsGridTextIn s)
   unfolding columns_line
@@ -133,7 +133,7 @@ module _ (s : Sizes) (ok : AreSizes s) where
     extends = λ p (line, ((n, (low, (high, e))), f)).
         let least = some_rows s ok n low high in
         let more = rows_line s.least_height ++ (frame_lines ++ grid_rows n s.least_height zero_field) in
-        (more, subst (λ (l : List ℕ). IsGridTextIn s (l ++ more)) (sym (f ∙ ap (λ (l : List ℕ). l ++ 10 ∷ []) e)) (some_grid n s.least_height (sized_within s ok n low high s.least_height (omega arith) least) (within_at s ok n low high s.least_height (omega arith) least)));
+        (more, subst (λ (l : List ℕ). IsGridTextIn s (l ++ more)) (sym (f ∙ ap (λ (l : List ℕ). l ++ 10 ∷ []) e)) (some_grid n s.least_height (within_at s ok n low high s.least_height (omega arith) least)));
     whole = (count_code (codes "ncols ") s.least_width s.most_width columns_inside ok.narrow).whole;
     free = (count_code (codes "ncols ") s.least_width s.most_width columns_inside ok.narrow).free;
   }
@@ -143,13 +143,13 @@ module _ (s : Sizes) (ok : AreSizes s) where
     unfolding rows_line
     grid_second = record {
       splits = λ t (g, (a, (i, e))).
-          let z = sized_parts g.width g.height a.sized in
+          let z = size_within s ok g.width g.height i in
           let cut = columns_same w g.width t (rows_line g.height ++ (frame_lines ++ grid_rows g.width g.height g.values)) (omega (arith, narrow, ok.narrow)) (small_width g.width g.height z) e in
-          let low = rows_below s ok w wide narrow g.height i.low (subst (λ (n : ℕ). n * g.height ≤ 4194304) (sym cut.0) z.few) in
+          let low = rows_below s ok w wide narrow g.height i.low (subst (λ (n : ℕ). n * g.height ≤ s.most_pixels) (sym cut.0) i.few) in
           (rows_line g.height, frame_lines ++ grid_rows g.width g.height g.values, ((codes "nrows " ++ decimal g.height, ((g.height, (i.high, (low, refl))), refl)), cut.1));
       extends = λ p (line, ((n, (low, (high, e))), f)).
           let more = frame_lines ++ grid_rows w n zero_field in
-          (more, subst (λ (l : List ℕ). IsGridTextIn s (columns_line w ++ (l ++ more))) (sym (f ∙ ap (λ (l : List ℕ). l ++ 10 ∷ []) e)) (some_grid w n (sized_within s ok w wide narrow n low high) (within_at s ok w wide narrow n low high)));
+          (more, subst (λ (l : List ℕ). IsGridTextIn s (columns_line w ++ (l ++ more))) (sym (f ∙ ap (λ (l : List ℕ). l ++ 10 ∷ []) e)) (some_grid w n (within_at s ok w wide narrow n low high)));
       whole = (count_code (codes "nrows ") s.least_height (most_rows s w) rows_inside (omega (arith, ok.low))).whole;
       free = (count_code (codes "nrows ") s.least_height (most_rows s w) rows_inside (omega (arith, ok.low))).free;
     }
@@ -159,10 +159,10 @@ module _ (s : Sizes) (ok : AreSizes s) where
         let z = sized_within s ok w wide narrow h high low in
         record {
           whole = size_whole w h;
-          to = λ t (v, (long, e)). (record { width = w; height = h; values = v }, (record { sized = sized_by w h z; fits = long }, (within_at s ok w wide narrow h high low, append_assoc (columns_line w) (rows_line h) t ∙ ap (λ (l : List ℕ). columns_line w ++ (rows_line h ++ l)) e)));
+          to = λ t (v, (long, e)). (record { width = w; height = h; values = v }, (long, (within_at s ok w wide narrow h high low, append_assoc (columns_line w) (rows_line h) t ∙ ap (λ (l : List ℕ). columns_line w ++ (rows_line h ++ l)) e)));
           «from» = λ t (g, (a, (i, e))).
-              let same = sizes_cancel w h g.width g.height t (frame_lines ++ grid_rows g.width g.height g.values) z (sized_parts g.width g.height a.sized) (sym (append_assoc (columns_line w) (rows_line h) t) ∙ e) in
-              body_of w h g.width g.height g.values t same.width same.height a.fits same.rest;
+              let same = sizes_cancel w h g.width g.height t (frame_lines ++ grid_rows g.width g.height g.values) z (size_within s ok g.width g.height i) (sym (append_assoc (columns_line w) (rows_line h) t) ∙ e) in
+              body_of w h g.width g.height g.values t same.width same.height a same.rest;
         }
 
 -- ---- the four lines that are the same in every grid
@@ -188,19 +188,39 @@ body_after w h p e = record {
   «from» = λ t (v, (long, f)). (v, (long, append_cancel_left frame_lines t (grid_rows w h v) (ap (λ (l : List ℕ). l ++ t) (sym e) ∙ f)));
 }
 
--- ---- grids of any size, and of one that is known
+-- ---- grids of any size that has tiles, and of one that is known
 
-pub any_size : (s : Sizes) → s.least_width ≡ 1 → s.most_width ≡ 4096 → s.least_height ≡ 1 → s.most_height ≡ 4096 → SameForms (IsGridTextIn s) IsGridText
-any_size s a b c d = record {
-  to = λ t (g, (ok, (i, e))). (g, (ok, e));
-  «from» = λ t (g, (ok, e)). let z = sized_parts g.width g.height ok.sized in (g, (ok, (record { wide = omega (arith, z.wide, a); narrow = omega (arith, z.narrow, b); high = omega (arith, z.high, c); low = omega (arith, z.low, d) }, e)));
+pub record IsAnySize (s : Sizes) : Type 0 where
+  pub least_width : s.least_width ≡ 1
+  pub most_width : s.most_width ≡ 4096
+  pub least_height : s.least_height ≡ 1
+  pub most_height : s.most_height ≡ 4096
+  pub most_pixels : s.most_pixels ≡ 4194304
+
+pub any_sized : (s : Sizes) → IsAnySize s → (w h : ℕ) → HasSizeWithin s w h → IsTrue (is_tiled_size w h)
+any_sized s a w h i = sized_by w h (record { wide = omega (arith, i.wide, a.least_width); narrow = omega (arith, i.narrow, a.most_width); high = omega (arith, i.high, a.least_height); low = omega (arith, i.low, a.most_height); few = omega (arith, i.few, a.most_pixels) })
+
+pub any_size : (s : Sizes) → IsAnySize s → SameForms (IsGridTextIn s) IsGridText
+any_size s a = record {
+  to = λ t (g, (long, (i, e))). (g, (record { sized = any_sized s a g.width g.height i; fits = long }, e));
+  «from» = λ t (g, (ok, e)).
+      let z = sized_parts g.width g.height ok.sized in
+      (g, (ok.fits, (record { wide = omega (arith, z.wide, a.least_width); narrow = omega (arith, z.narrow, a.most_width); high = omega (arith, z.high, a.least_height); low = omega (arith, z.low, a.most_height); few = omega (arith, z.few, a.most_pixels) }, e)));
 }
 
 values_of : (w h w' h' : ℕ) (v : Field ℤ) (t : List ℕ) → w ≡ w' → h ≡ h' → AreLong w' h' v → t ≡ grid_text w' h' v → IsGridTextOf w h t
 values_of w h w' h' v t e f long g = rw (e, f) (v, (long, g))
 
-pub one_size : (w h : ℕ) → IsTrue (is_tiled_size w h) → SameForms (IsGridTextIn (record { least_width = w; most_width = w; least_height = h; most_height = h })) (IsGridTextOf w h)
-one_size w h z = record {
-  to = λ t (g, (ok, (i, e))). values_of w h g.width g.height g.values t (omega (arith, i.wide, i.narrow)) (omega (arith, i.high, i.low)) ok.fits e;
-  «from» = λ t (v, (long, e)). (record { width = w; height = h; values = v }, (record { sized = z; fits = long }, (record { wide = omega arith; narrow = omega arith; high = omega arith; low = omega arith }, e)));
-}
+abbrev pub known_size : ℕ → ℕ → Sizes
+known_size w h = record { least_width = w; most_width = w; least_height = h; most_height = h; most_pixels = 268435456 }
+
+pub known_sizes : (w h : ℕ) → IsTrue (is_raster_size w h) → AreSizes (known_size w h)
+known_sizes w h z = let p = wide_parts w h z in record { wide = p.wide; widths = omega arith; narrow = p.narrow; high = p.high; heights = omega arith; low = p.low; few = p.few; pixels = omega arith }
+
+pub one_size : (w h : ℕ) → IsTrue (is_raster_size w h) → SameForms (IsGridTextIn (known_size w h)) (IsGridTextOf w h)
+one_size w h z =
+    let p = wide_parts w h z in
+    record {
+      to = λ t (g, (long, (i, e))). values_of w h g.width g.height g.values t (omega (arith, i.wide, i.narrow)) (omega (arith, i.high, i.low)) long e;
+      «from» = λ t (v, (long, e)). (record { width = w; height = h; values = v }, (long, (record { wide = omega arith; narrow = omega arith; high = omega arith; low = omega arith; few = p.few }, e)));
+    }

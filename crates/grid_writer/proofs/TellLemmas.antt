@@ -5,7 +5,7 @@ use Rattle.std.specs.Fmt.{decimal}
 use Rattle.std.proofs.lemmas.Bool.{cases_eq, cases_lt}
 use Rattle.std.proofs.lemmas.List.{append-nil, length-append}
 use Rattle.std.proofs.lemmas.List.Elements.{All-append, All-nil}
-use Rattle.raster_model.specs.Limits.{is_tiled_size}
+use Rattle.raster_model.specs.Limits.{is_raster_size, is_tiled_size}
 use Rattle.raster_model.specs.Sums.{Field}
 use Rattle.text_lines.specs.Forms.{Begins, IsText, NeedsMore}
 use Rattle.text_lines.specs.Numbers.{AreLongs, FitsLong, numbers_line, numbers_text}
@@ -18,9 +18,9 @@ use Rattle.grid_writer.specs.declared.read.Sizes.{Sizes}
 use Rattle.grid_writer.specs.Grid.{columns_line, frame_lines, grid_rows, rows_line}
 use Rattle.grid_writer.specs.Grids.{AreLong, IsGridText, IsGridTextOf, value_at}
 use Rattle.grid_writer.specs.GridParts.{AreSizes, IsBodyText, IsCount, IsCountLine, IsGridTextIn, IsRow, IsRowsText}
-use Rattle.grid_writer.proofs.HeadLemmas.{any_size, body_after, body_first, columns_inside, count_inside, grid_after, grid_first, grid_second, one_size, row_inside, rows_inside, some_row, zeros}
+use Rattle.grid_writer.proofs.HeadLemmas.{IsAnySize, any_size, body_after, body_first, columns_inside, count_inside, grid_after, grid_first, grid_second, known_size, known_sizes, one_size, row_inside, rows_inside, some_row, zeros}
 use Rattle.grid_writer.proofs.RowsLemmas.{row_first, rows_cancel, value_long}
-use Rattle.grid_writer.proofs.SizeLemmas.{most_rows, sized_parts, some_rows}
+use Rattle.grid_writer.proofs.SizeLemmas.{most_rows, some_rows, tiled_is_raster}
 use Rattle.grid_writer.proofs.ValueLemmas.{rows_none, rows_push}
 
 -- ---- lines
@@ -113,24 +113,27 @@ module _ (s : Sizes) (ok : AreSizes s) where
   sizes_decided = after_line_decided (IsCount (codes "ncols ") s.least_width s.most_width) inside (count_told (codes "ncols ") s.least_width s.most_width) some_line (IsGridTextIn s) (grid_first s ok) width_then
 
 -- a grid of a size that is known
-pub sized_decided : (w h : ℕ) → IsTrue (is_tiled_size w h) → IsDecided (IsGridTextOf w h)
-sized_decided w h z t whole =
-    let s : Sizes = record { least_width = w; most_width = w; least_height = h; most_height = h } in
-    let p = sized_parts w h z in
-    decided_same (IsGridTextIn s) (IsGridTextOf w h) (one_size w h z) t
-    (sizes_decided s (record { wide = p.wide; widths = omega arith; narrow = p.narrow; high = p.high; heights = omega arith; low = p.low; few = p.few }) t whole)
+pub wide_decided : (w h : ℕ) → IsTrue (is_raster_size w h) → IsDecided (IsGridTextOf w h)
+wide_decided w h z t whole = decided_same (IsGridTextIn (known_size w h)) (IsGridTextOf w h) (one_size w h z) t (sizes_decided (known_size w h) (known_sizes w h z) t whole)
 
--- one of any size
+pub sized_decided : (w h : ℕ) → IsTrue (is_tiled_size w h) → IsDecided (IsGridTextOf w h)
+sized_decided w h z = wide_decided w h (tiled_is_raster w h z)
+
+-- one of any size that has tiles
 any : Sizes
-any = record { least_width = 1; most_width = 4096; least_height = 1; most_height = 4096 }
+any = record { least_width = 1; most_width = 4096; least_height = 1; most_height = 4096; most_pixels = 4194304 }
 
 any_ok : AreSizes any
 unfolding any
-any_ok = record { wide = omega arith; widths = omega arith; narrow = omega arith; high = omega arith; heights = omega arith; low = omega arith; few = omega arith }
+any_ok = record { wide = omega arith; widths = omega arith; narrow = omega arith; high = omega arith; heights = omega arith; low = omega arith; few = omega arith; pixels = omega arith }
+
+any_is : IsAnySize any
+unfolding any
+any_is = record { least_width = refl; most_width = refl; least_height = refl; most_height = refl; most_pixels = refl }
 
 pub grid_or_break : TextOrBreak IsGridText
 unfolding any
 grid_or_break =
-    let same = any_size any refl refl refl refl in
+    let same = any_size any any_is in
     text_or_break IsGridText (λ t w. decided_same (IsGridTextIn any) IsGridText same t (sizes_decided any any_ok t w))
     (let g = goes_on_first (IsCountLine (codes "ncols ") 1 4096) (IsGridTextIn any) (grid_first any any_ok) [] (columns_needed any any_ok) in (g.0, (g.1.0, same.to g.0 g.1.1)))

@@ -6,6 +6,10 @@ use Rattle.raster_model.specs.Seams.{IsEarlier}
 use Rattle.raster_model.specs.Sums.{Field}
 use Rattle.grid_writer.specs.Values.{no_data}
 
+-- phases are less than a cycle
+abbrev pub HasPhases : Raster → Type 0
+HasPhases raster = (x y : ℕ) → raster.phase x y < 65536
+
 -- a masked pixel has NODATA; an open one has another value, which is the phase up to whole cycles
 pub record FitsPhase (phase : ℕ) (value : ℤ) : Type 0 where
   pub told : value ≢ no_data

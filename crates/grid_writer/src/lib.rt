@@ -18,7 +18,7 @@ pub use crate::grid::{
     write_values,
 };
 pub use crate::many::read_grids;
-pub use crate::read::{read_grid, read_sized_grid};
+pub use crate::read::{read_grid, read_sized_grid, read_sized_values};
 pub use crate::rows::Rows;
 pub use crate::shown::ShownValues;
 pub use crate::values::{Grid, NO_DATA};

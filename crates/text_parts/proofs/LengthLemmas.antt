@@ -6,7 +6,7 @@ use Rattle.std.proofs.lemmas.Bool.Decides.{nat_tests}
 use Rattle.std.proofs.lemmas.Fmt.{length-decimal-le, length_signed_le}
 use Rattle.std.proofs.lemmas.List.{length-append}
 use Rattle.std.proofs.lemmas.List.Elements.{All-head, All-tail}
-use Rattle.raster_model.specs.Limits.{is_tiled_size}
+use Rattle.raster_model.specs.Limits.{is_raster_size, is_tiled_size}
 use Rattle.raster_model.specs.Sums.{Field}
 use Rattle.text_lines.specs.Numbers.{AreLongs, FitsLong, number_text, numbers_line, numbers_text}
 use Rattle.text_lines.specs.Text.{texts_below}
@@ -54,20 +54,20 @@ grid_rows_short : (width height : ℕ) (values : Field ℤ) → AreLong width he
 unfolding grid_rows
 grid_rows_short width height values long = texts_short height (21 * width + 1) (grid_row values width) (λ y lt. grid_row_short values width height y long lt)
 
-columns_short : (width : ℕ) → width ≤ 4096 → length (columns_line width) ≤ 16
+columns_short : (width : ℕ) → width ≤ 65535 → length (columns_line width) ≤ 16
 unfolding columns_line
-columns_short width le = omega (arith, length-append (codes "ncols " ++ decimal width) (10 ∷ []), length-append (codes "ncols ") (decimal width), length-decimal-le 4 width (omega arith) (omega (arith, le)) (omega (arith, le)))
+columns_short width le = omega (arith, length-append (codes "ncols " ++ decimal width) (10 ∷ []), length-append (codes "ncols ") (decimal width), length-decimal-le 5 width (omega arith) (omega (arith, le)) (omega (arith, le)))
 
-rows_short : (height : ℕ) → height ≤ 4096 → length (rows_line height) ≤ 16
+rows_short : (height : ℕ) → height ≤ 65535 → length (rows_line height) ≤ 16
 unfolding rows_line
-rows_short height le = omega (arith, length-append (codes "nrows " ++ decimal height) (10 ∷ []), length-append (codes "nrows ") (decimal height), length-decimal-le 4 height (omega arith) (omega (arith, le)) (omega (arith, le)))
+rows_short height le = omega (arith, length-append (codes "nrows " ++ decimal height) (10 ∷ []), length-append (codes "nrows ") (decimal height), length-decimal-le 5 height (omega arith) (omega (arith, le)) (omega (arith, le)))
 
 frame_short : length frame_lines ≤ 96
 unfolding frame_lines
 frame_short = omega arith
 
-pub grid_short : (width height : ℕ) (values : Field ℤ) → AreLong width height values → width ≤ 4096 → height ≤ 4096 → length (grid_text width height values) ≤ 128 + height * (21 * width + 1)
-grid_short width height values long wide high =
+pub whole_grid_short : (width height : ℕ) (values : Field ℤ) → AreLong width height values → width ≤ 65535 → height ≤ 65535 → length (grid_text width height values) ≤ 128 + height * (21 * width + 1)
+whole_grid_short width height values long wide high =
     let rows = grid_rows width height values in
     omega (
       arith,
@@ -80,6 +80,12 @@ grid_short width height values long wide high =
       grid_rows_short width height values long,
     )
 
+pub grid_short : (width height : ℕ) (values : Field ℤ) → AreLong width height values → width ≤ 4096 → height ≤ 4096 → length (grid_text width height values) ≤ 128 + height * (21 * width + 1)
+grid_short width height values long wide high = whole_grid_short width height values long (omega (arith, wide)) (omega (arith, high))
+
 -- a raster has pixels, and not too many
+pub whole_pixels : (width height : ℕ) → IsTrue (is_raster_size width height) → (1 ≤ width) × (1 ≤ height)
+whole_pixels width height sized = (grind (arith, nat_tests), grind (arith, nat_tests))
+
 pub some_pixels : (width height : ℕ) → IsTrue (is_tiled_size width height) → (1 ≤ width) × (1 ≤ height) × (width * height ≤ 4194304)
 some_pixels width height sized = (grind (arith, nat_tests), grind (arith, nat_tests), grind (arith, nat_tests))

@@ -9,16 +9,17 @@ use Rattle.std.proofs.lemmas.Int.{fits_signed_from_abs, ints, to_z-of_z}
 use Rattle.std.proofs.lemmas.List.{length-append}
 use Rattle.insar_ports.specs.Lines.{IsInLine}
 use mir.Syntax.{w16, w32, w64}
-use Rattle.raster_model.specs.Limits.{is_tiled_size, IsSlope, IsSteepness}
+use Rattle.raster_model.specs.Limits.{is_raster_size, is_tiled_size, IsSlope, IsSteepness}
 use Rattle.raster_model.specs.declared.weights.RuleKind.{RuleKind}
 use Rattle.raster_model.specs.declared.weights.RuleKind.TheVariants.{Least}
+use Rattle.grid_writer.proofs.SizeLemmas.{tiled_is_raster}
 use Rattle.text_lines.specs.Numbers.{FitsLong, number_text}
 use Rattle.text_lines.specs.Parsing.{AreWords, IsWide, IsWord}
 use Rattle.text_lines.specs.Text.{field_text}
 use Rattle.text_lines.proofs.FieldLemmas.{IsDigit, all_both, all_weaker, decimal_digits, is_printed, word_wide}
 use Rattle.text_lines.proofs.FormLemmas.{InLine}
 use Rattle.text_lines.proofs.NumberLemmas.{magnitude, number_in_line}
-use Rattle.text_parts.specs.Parts.{IsRamp, IsRasterSize}
+use Rattle.text_parts.specs.Parts.{IsRamp, IsRasterSize, IsWholeSize}
 use Rattle.text_parts.specs.Text.{ramp_line, rule_line, size_line, steep_line}
 
 -- bytes without a line feed, at most so many
@@ -81,11 +82,23 @@ rule_fits r = record { inside = word_in_line (rule_line r) refl; short = omega a
 pub size_parts : (w h : ℕ) → IsTrue (is_tiled_size w h) → (w ≤ 4096) × (h ≤ 4096)
 size_parts w h z = (grind (arith, nat_tests), grind (arith, nat_tests))
 
+pub whole_parts : (w h : ℕ) → IsTrue (is_raster_size w h) → (w ≤ 65535) × (h ≤ 65535)
+whole_parts w h z = (grind (arith, nat_tests), grind (arith, nat_tests))
+
+pub whole_words : (s : ℕ × ℕ) → IsWholeSize s → AreWords s
+whole_words s z = let p = whole_parts s.0 s.1 z in let a = p.0 in let b = p.1 in (omega (arith, a), omega (arith, b))
+
+pub tiled_whole : (s : ℕ × ℕ) → IsRasterSize s → IsWholeSize s
+tiled_whole s z = tiled_is_raster s.0 s.1 z
+
 pub size_words : (s : ℕ × ℕ) → IsRasterSize s → AreWords s
-size_words s z = let p = size_parts s.0 s.1 z in let a = p.0 in let b = p.1 in (omega (arith, a), omega (arith, b))
+size_words s z = whole_words s (tiled_whole s z)
+
+pub whole_size_fits : (s : ℕ × ℕ) → IsWholeSize s → Fits 128 (size_line s)
+whole_size_fits s z = let w = whole_words s z in fits_more (fits_both (word_fits (codes "size") refl) (pair_fits s.0 s.1 w.0 w.1)) (omega arith)
 
 pub size_fits : (s : ℕ × ℕ) → IsRasterSize s → Fits 128 (size_line s)
-size_fits s z = let w = size_words s z in fits_more (fits_both (word_fits (codes "size") refl) (pair_fits s.0 s.1 w.0 w.1)) (omega arith)
+size_fits s z = whole_size_fits s (tiled_whole s z)
 
 pub slope_fits : (n : ℤ) → IsSlope n → Fits 21 (number_text n)
 unfolding number_text

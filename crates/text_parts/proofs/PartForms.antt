@@ -1,9 +1,10 @@
 -- Lines and grids as parts of texts.
-use Rattle.std.proofs.Common.{List, length, IsTrue, rules, inl, ◌≡◌, ℕ, pos, [], ◌++◌, Result, Ok, Err, refl, ap, ◌∙◌, arith}
-use Rattle.std.specs.Prelude.{IfErr, IfOk}
+use Rattle.std.proofs.Common.{List, length, IsTrue, rules, inl, ◌≡◌, ℕ, pos, [], Result, Ok, Err, refl, ap, ◌∙◌, arith}
+use Rattle.std.specs.Global.{Vec}
+use Rattle.std.specs.Prelude.{IfErr, IfOk, ℤ}
 use Rattle.std.proofs.lemmas.Int.{ints}
 use Rattle.std.proofs.lemmas.List.Elements.{All-from_recursion}
-use Rattle.raster_model.specs.Limits.{is_tiled_size, IsSlope, IsSteepness}
+use Rattle.raster_model.specs.Limits.{is_raster_size, is_tiled_size, IsSlope, IsSteepness}
 use Rattle.raster_model.specs.declared.weights.RuleKind.TheVariants.{Least}
 use Rattle.text_lines.specs.declared.fault.LineFault.{LineFault}
 use Rattle.text_lines.specs.LineWords.{TakesLines}
@@ -12,13 +13,14 @@ use Rattle.text_lines.specs.Numbers.{AreLongs, FitsLong}
 use Rattle.text_lines.specs.Parsing.{IsAnyRule}
 use Rattle.grid_writer.specs.Grid.{grid_text}
 use Rattle.grid_writer.specs.declared.values.Grid.{Grid}
-use Rattle.grid_writer.specs.Grids.{AreLong, IsGrid, IsGridText, IsGridTextOf, grid_of, text_of_grid}
-use Rattle.text_parts.specs.Parts.{IsRamp, IsRasterSize, values_in}
+use Rattle.grid_writer.specs.Grids.{AreLong, IsGrid, IsGridTextOf, grid_of, text_of_grid, value_at}
+use Rattle.text_parts.specs.Parts.{IsRamp, IsRasterSize, IsWholeSize, rows_of, values_in}
 use Rattle.text_parts.specs.Steps.{Advances, LinePlace, ReadsPart, between}
 use Rattle.text_parts.specs.Text.{known_line, ramp_line, rule_line, size_line, steep_line}
-use Rattle.grid_writer.proofs.GridReads.{grid_free, grid_whole}
+use Rattle.grid_writer.proofs.GridReads.{known_code}
+use Rattle.grid_writer.proofs.SizeLemmas.{tiled_is_raster}
 use Rattle.text_lines.proofs.FormLemmas.{InLine}
-use Rattle.text_parts.proofs.LineLemmas.{ramp_fits, rule_fits, size_fits, steep_fits}
+use Rattle.text_parts.proofs.LineLemmas.{ramp_fits, rule_fits, size_fits, steep_fits, whole_size_fits}
 use Rattle.text_parts.proofs.ReadsLemmas.{IsLineKind, IsPart, reads_ok, short_kind}
 
 pub none_long : AreLongs []
@@ -36,6 +38,9 @@ steep_kind = short_kind (1, (omega arith, omega arith)) steep_fits
 pub size_kind : IsLineKind IsRasterSize size_line 128
 size_kind = short_kind ((1, 1), refl) size_fits
 
+pub whole_size_kind : IsLineKind IsWholeSize size_line 128
+whole_size_kind = short_kind ((1, 1), refl) whole_size_fits
+
 pub rule_kind : IsLineKind IsAnyRule rule_line 128
 rule_kind = short_kind (Least, tt) (λ r _. rule_fits r)
 
@@ -44,16 +49,17 @@ pub grid_reads : {v w : LinePlace} (width height : ℕ) (r : Result Grid LineFau
 grid_reads width height (Ok g) a s f t e = reads_ok (record { advance = a; taken = t }) (rw (← s.0, ← s.1) f.fits) (ap (λ (n : ℕ). grid_text n g.height (values_in g)) s.0 ∙ ap (λ (n : ℕ). grid_text width n (values_in g)) s.1)
 grid_reads width height (Err y) a s f t e = record { advance = a; read = tt; refused = e }
 
--- a grid of a size within the limits
-module _ (width height : ℕ) (z : IsTrue (is_tiled_size width height)) where
-  grid_is : (t : List ℕ) → IsGridTextOf width height t → IsGridText t
-  grid_is t a = (record { width = width; height = height; values = a.0 }, (record { sized = z; fits = a.1.0 }, a.1.1))
+-- the same of its values alone
+pub values_read : {v w : LinePlace} (width height : ℕ) (r : Result (Vec ℤ) LineFault) → Advances v w → IfOk r (λ values. AreLong width height (value_at width values.items)) → IfOk r (λ values. TakesLines (λ bytes. bytes ≡ grid_text width height (value_at width values.items)) v.number w.number (between v w)) → IfErr r (HasLineCause (IsGridTextOf width height) v.number (between v w)) → ReadsPart (rows_of width) (AreLong width height) (grid_text width height) v w r
+values_read width height (Ok values) a f t e = reads_ok (record { advance = a; taken = t }) f refl
+values_read width height (Err y) a f t e = record { advance = a; read = tt; refused = e }
 
-  pub grid_part : IsPart (AreLong width height) (grid_text width height)
-  grid_part = record {
-    some = ((λ x y. pos 0), λ x y p q. search rules);
-    code = record { whole = λ p a. grid_whole p (grid_is p a); free = λ p m a b. grid_free p m (grid_is p a) (grid_is (p ++ m) b) };
-  }
+-- a grid of a size within the limits
+pub values_part : (width height : ℕ) → IsTrue (is_raster_size width height) → IsPart (AreLong width height) (grid_text width height)
+values_part width height z = record { some = ((λ x y. pos 0), λ x y p q. search rules); code = known_code width height z }
+
+pub grid_part : (width height : ℕ) → IsTrue (is_tiled_size width height) → IsPart (AreLong width height) (grid_text width height)
+grid_part width height z = values_part width height (tiled_is_raster width height z)
 
 -- a line that is known
 pub known_kind : {A : Type 0} (text : List ℕ) → A → InLine text → IsLineKind IsAnyRule (known_line {A = A} text) (length text)

@@ -7,7 +7,7 @@ use Rattle.std.proofs.lemmas.Bool.{cases_Bool, cases_lt, false≢true}
 use Rattle.std.proofs.lemmas.Fmt.{decimal_is_IsNumeral_wide, signed_decimal_injective}
 use Rattle.std.proofs.lemmas.Int.{ints}
 use Rattle.std.proofs.lemmas.List.{append_cancel_left, take_at, take-append-drop}
-use Rattle.raster_model.specs.Limits.{is_tiled_size, IsSlope, IsSteepness}
+use Rattle.raster_model.specs.Limits.{is_raster_size, is_tiled_size, IsSlope, IsSteepness}
 use Rattle.raster_model.specs.declared.weights.RuleKind.{RuleKind}
 use Rattle.raster_model.specs.declared.weights.RuleKind.TheVariants.{Least, Mean, Product}
 use Rattle.text_lines.specs.Numbers.{BeginsField, FitsLong, number_text}
@@ -17,10 +17,10 @@ use Rattle.text_lines.proofs.FieldLemmas.{decimal_token, is_printed, last_begins
 use Rattle.text_lines.proofs.FormLemmas.{Without}
 use Rattle.text_lines.proofs.NumberLemmas.{magnitude, parts_unique, signed_without}
 use Rattle.text_lines.proofs.TellLemmas.{Told, bytes_told, number_told, token_in_front}
-use Rattle.text_parts.specs.Parts.{IsRamp, IsRasterSize}
+use Rattle.text_parts.specs.Parts.{IsRamp, IsRasterSize, IsWholeSize}
 use Rattle.text_parts.specs.Steps.{TextOf, both, in_turn}
 use Rattle.text_parts.specs.Text.{known_line, ramp_line, rule_line, size_line, steep_line}
-use Rattle.text_parts.proofs.LineLemmas.{size_words, slope_long}
+use Rattle.text_parts.proofs.LineLemmas.{size_words, slope_long, whole_words}
 use Rattle.text_parts.proofs.ReadsLemmas.{One}
 use Rattle.text_parts.proofs.UniqueLemmas.{words_unique}
 
@@ -115,11 +115,14 @@ module _ (P : ℕ → Type 0) (wide : (n : ℕ) → P n → IsWide n) (test : (n
 pub words_told : (word : List ℕ) → Tells AreWords (behind word pair_text)
 words_told word = behind_told AreWords pair_text word (pair_told IsWord word_wide word_told)
 
+test_told : (b : Bool) → Told (IsTrue b)
+test_told b = elim (cases_Bool b) [ inl holds ↦ inl holds | inr fails ↦ inr (λ holds. false≢true (sym fails ∙ holds)) ]
+
 pub size_told : Tells IsRasterSize size_line
-size_told = narrow_told AreWords IsRasterSize size_line (words_unique (codes "size")) size_words (λ s _. test (is_tiled_size s.0 s.1)) (words_told (codes "size"))
-  where
-    test : (b : Bool) → Told (IsTrue b)
-    test b = elim (cases_Bool b) [ inl holds ↦ inl holds | inr fails ↦ inr (λ holds. false≢true (sym fails ∙ holds)) ]
+size_told = narrow_told AreWords IsRasterSize size_line (words_unique (codes "size")) size_words (λ s _. test_told (is_tiled_size s.0 s.1)) (words_told (codes "size"))
+
+pub whole_size_told : Tells IsWholeSize size_line
+whole_size_told = narrow_told AreWords IsWholeSize size_line (words_unique (codes "size")) whole_words (λ s _. test_told (is_raster_size s.0 s.1)) (words_told (codes "size"))
 
 pub rule_told : Tells IsAnyRule rule_line
 rule_told line = elim (bytes_told line (rule_line Least)) [

@@ -8,22 +8,25 @@ use Rattle.text_lines.specs.Numbers.{BeginsField, number_text}
 use Rattle.raster_model.specs.Limits.{IsSlope, IsSteepness}
 use Rattle.raster_model.specs.declared.weights.RuleKind.{RuleKind}
 use Rattle.raster_model.specs.declared.weights.RuleKind.TheVariants.{Least, Mean, Product}
-use Rattle.text_parts.specs.Parts.{IsRamp, IsRasterSize}
+use Rattle.text_parts.specs.Parts.{IsRamp, IsRasterSize, IsWholeSize}
 use Rattle.text_parts.specs.Text.{ramp_line, rule_line, size_line, steep_line}
 use Rattle.text_lines.specs.Parsing.{AreWords}
 use Rattle.text_lines.specs.Text.{field_text}
 use Rattle.text_lines.proofs.FieldLemmas.{last_unique, pair_unique, word_wide}
 use Rattle.text_lines.proofs.FormLemmas.{Without}
 use Rattle.text_lines.proofs.NumberLemmas.{magnitude, parts_unique, signed_without}
-use Rattle.text_parts.proofs.LineLemmas.{size_words, slope_long}
+use Rattle.text_parts.proofs.LineLemmas.{slope_long, tiled_whole, whole_words}
 use Rattle.text_parts.specs.Terms.{TermsOf}
 
 -- two numbers of 32 bits behind a word
 pub words_unique : (word : List ℕ) (p q : ℕ × ℕ) → AreWords p → AreWords q → word ++ (field_text p.0 ++ field_text p.1) ≡ word ++ (field_text q.0 ++ field_text q.1) → p ≡ q
 words_unique word p q a b e = let s = pair_unique p.0 p.1 q.0 q.1 (word_wide p.0 a.0) (word_wide p.1 a.1) (word_wide q.0 b.0) (word_wide q.1 b.1) (append_cancel_left word _ _ e) in ap₂ (λ (m n : ℕ). (m, n)) s.0 s.1
 
+pub whole_size_unique : (s t : ℕ × ℕ) → IsWholeSize s → IsWholeSize t → size_line s ≡ size_line t → s ≡ t
+whole_size_unique s t a b e = words_unique (codes "size") s t (whole_words s a) (whole_words t b) e
+
 pub size_unique : (s t : ℕ × ℕ) → IsRasterSize s → IsRasterSize t → size_line s ≡ size_line t → s ≡ t
-size_unique s t a b e = words_unique (codes "size") s t (size_words s a) (size_words t b) e
+size_unique s t a b e = whole_size_unique s t (tiled_whole s a) (tiled_whole t b) e
 
 pub steep_unique : (m n : ℕ) → IsSteepness m → IsSteepness n → steep_line m ≡ steep_line n → m ≡ n
 steep_unique m n a b e = last_unique m n (omega (arith, a.1)) (omega (arith, b.1)) (append_cancel_left (codes "steep") (field_text m) (field_text n) e)

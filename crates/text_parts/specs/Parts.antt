@@ -5,7 +5,7 @@ use Rattle.insar_ports.specs.Bytes.{HasMore, HasRisen}
 use Rattle.insar_ports.specs.Calls.{Call, Takes}
 use Rattle.insar_ports.specs.Lines.{IsInLine}
 use Rattle.text_lines.specs.declared.fault.LineFault.{LineFault}
-use Rattle.raster_model.specs.Limits.{is_tiled_size, IsSlope, IsSteepness}
+use Rattle.raster_model.specs.Limits.{is_raster_size, is_tiled_size, IsSlope, IsSteepness}
 use Rattle.raster_model.specs.Sums.{Field}
 use Rattle.grid_writer.specs.declared.values.Grid.{Grid}
 use Rattle.grid_writer.specs.Grids.{value_at}
@@ -17,9 +17,12 @@ use Rattle.text_lines.specs.declared.fault.LineFault.TheVariants as faults
 abbrev pub IsListParsedAs : (List ℤ → Type 0) → (List ℤ → List ℕ) → List ℕ → Option (Vec ℤ) → Type 0
 IsListParsedAs MayStand text bytes result = MatchOption result ((numbers : List ℤ) → MayStand numbers → bytes ≡ text numbers → ⊥) (λ v. MayStand v.items × (bytes ≡ text v.items))
 
--- which values lines may have: a size within the limits, a ramp
+-- which values lines may have: the size of a raster that has tiles, and of one that has none; a ramp
 abbrev pub IsRasterSize : ℕ × ℕ → Type 0
 IsRasterSize size = IsTrue (is_tiled_size size.0 size.1)
+
+abbrev pub IsWholeSize : ℕ × ℕ → Type 0
+IsWholeSize size = IsTrue (is_raster_size size.0 size.1)
 
 abbrev pub IsRamp : ℤ × ℤ → Type 0
 IsRamp ramp = IsSlope ramp.0 × IsSlope ramp.1
@@ -37,6 +40,9 @@ list_in list = list.items
 
 abbrev pub values_in : Grid → Field ℤ
 values_in grid = value_at grid.width grid.values.items
+
+abbrev pub rows_of : ℕ → Vec ℤ → Field ℤ
+rows_of width values = value_at width values.items
 
 -- why the input did not end: another line is there, whole or cut, or the limit cuts one
 abbrev pub IsLineMore : List ℕ → List ℕ → Type 0

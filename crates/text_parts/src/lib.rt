@@ -10,6 +10,6 @@ mod to_end;
 pub use crate::lines::{add_ramp, add_rule, add_size, add_steepness};
 pub use crate::read::{
     LONGEST_LINE, expect_end, numbers_after, parsed, read_grid_part, read_known, read_line,
-    read_ramp, read_rule, read_size, read_steepness,
+    read_ramp, read_rule, read_size, read_steepness, read_values_part, read_whole_size,
 };
 pub use crate::to_end::{LinedText, read_to_end};

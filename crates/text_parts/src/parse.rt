@@ -2,10 +2,10 @@ ghost use Rattle.raster_model.specs.Limits.{IsSlope, IsSteepness};
 ghost use Rattle.std.specs.Fmt.{signed_decimal};
 ghost use Rattle.text_lines.specs.Numbers.{number_text};
 ghost use Rattle.text_lines.specs.Parsing.{IsAnyRule, IsParsedAs};
-ghost use Rattle.text_parts.specs.Parts.{IsRamp, IsRasterSize};
+ghost use Rattle.text_parts.specs.Parts.{IsRamp, IsRasterSize, IsWholeSize};
 ghost use Rattle.text_parts.specs.Text.{known_line, ramp_line, rule_line, size_line, steep_line};
 
-use raster_model::{MAX_STEEPNESS, RuleKind};
+use raster_model::{MAX_STEEPNESS, RuleKind, is_raster_size, is_tiled_size};
 use text_lines::{labelled_count, number_of, pair_behind, split_field};
 
 // The words of the lines.
@@ -20,12 +20,24 @@ const STEEP: &[u8] = b"steep ";
 /// What is before each number of a line.
 const SPACE: &[u8] = b" ";
 
-/// The width and the height of a line `size W H`, if they are within the limits of a raster.
+/// The width and the height of a line `size W H`, if a raster of that size may have tiles.
 pub(crate) fn size_of(line: &[u8]) -> Option<(u32, u32)>
     ensures { IsParsedAs IsRasterSize size_line line.now result }
 {
+    let (width, height) = whole_size_of(line)?;
+    if is_tiled_size(width, height) {
+        Some((width, height))
+    } else {
+        None
+    }
+}
+
+/// The width and the height of a line `size W H`, if a raster may have that size.
+pub(crate) fn whole_size_of(line: &[u8]) -> Option<(u32, u32)>
+    ensures { IsParsedAs IsWholeSize size_line line.now result }
+{
     let (width, height) = pair_behind(line, SIZE)?;
-    if raster_model::is_tiled_size(width, height) {
+    if is_raster_size(width, height) {
         Some((width, height))
     } else {
         None

@@ -3,17 +3,17 @@ ghost use Rattle.grid_writer.specs.Grids.{AreLong};
 ghost use Rattle.insar_ports.specs.Calls.{Moves, Takes, call_of};
 ghost use Rattle.insar_ports.specs.Feeding.{handed_of, left_of, limit_of, source_name};
 ghost use Rattle.insar_ports.specs.Lines.{IsInLine};
-ghost use Rattle.raster_model.specs.Limits.{IsSteepness, is_tiled_size};
-ghost use Rattle.std.specs.Prelude.{◌≡◌, [], All, IfErr, IfOk, IsTrue, OnOk};
+ghost use Rattle.raster_model.specs.Limits.{IsSteepness, is_raster_size, is_tiled_size};
+ghost use Rattle.std.specs.Prelude.{◌≡◌, ◌*◌, [], All, IfErr, IfOk, IsTrue, OnOk, vec_len};
 ghost use Rattle.text_lines.specs.LineWords.{kept_line, lines_read};
 ghost use Rattle.text_lines.specs.Numbers.{AreLongs, numbers_text};
 ghost use Rattle.text_lines.specs.Parsing.{IsAnyRule, behind};
-ghost use Rattle.text_parts.specs.Parts.{HasMoreCause, IsListParsedAs, IsRamp, IsRasterSize, values_in};
+ghost use Rattle.text_parts.specs.Parts.{HasMoreCause, IsListParsedAs, IsRamp, IsRasterSize, IsWholeSize, rows_of, values_in};
 ghost use Rattle.text_parts.specs.Steps.{ReadsLine, ReadsPart, itself, parsed_at, place_of};
 ghost use Rattle.text_parts.specs.Text.{ended_line, known_line, ramp_line, rule_line, size_line, steep_line};
 
-use crate::parse::{known_in, ramp_of, rule_of, size_of, steepness_of};
-use grid_writer::{Grid, read_sized_grid};
+use crate::parse::{known_in, ramp_of, rule_of, size_of, steepness_of, whole_size_of};
+use grid_writer::{Grid, read_sized_grid, read_sized_values};
 use insar_ports::{Feed, Source};
 use raster_model::RuleKind;
 use std::alloc::{AllocError, Global};
@@ -59,12 +59,23 @@ pub fn read_known<S: Source>(
     parsed(lines, known_in(lines.line(), text))
 }
 
-/// Reads the line `size W H`, of a size within the limits of a raster.
+/// Reads the line `size W H`, of the size of a raster that has tiles.
 pub fn read_size<S: Source>(feed: &mut Feed<S>, lines: &mut Lines) -> Result<(u32, u32), LineFault>
     ensures { ReadsPart itself IsRasterSize (ended_line size_line) (place_of S.left S.faults feed.old lines.old) (place_of S.left S.faults feed.new lines.new) result }
 {
     read_line(feed, lines, LONGEST_LINE)?;
     parsed(lines, size_of(lines.line()))
+}
+
+/// Reads the line `size W H`, of the size of a raster, with or without tiles.
+pub fn read_whole_size<S: Source>(
+    feed: &mut Feed<S>,
+    lines: &mut Lines,
+) -> Result<(u32, u32), LineFault>
+    ensures { ReadsPart itself IsWholeSize (ended_line size_line) (place_of S.left S.faults feed.old lines.old) (place_of S.left S.faults feed.new lines.new) result }
+{
+    read_line(feed, lines, LONGEST_LINE)?;
+    parsed(lines, whole_size_of(lines.line()))
 }
 
 /// Reads the line `rule RULE`.
@@ -110,7 +121,22 @@ pub fn numbers_after(
     }
 }
 
-/// Reads a grid of a known size.
+/// Reads the values of a grid of a known size, one for each pixel of a raster, in row order.
+pub fn read_values_part<S: Source>(
+    alloc: Global,
+    feed: &mut Feed<S>,
+    lines: &mut Lines,
+    width: u32,
+    height: u32,
+) -> Result<Vec<i64>, LineFault>
+    requires sized { IsTrue (is_raster_size width height) }
+    ensures read { ReadsPart (rows_of width) (AreLong width height) (grid_text width height) (place_of S.left S.faults feed.old lines.old) (place_of S.left S.faults feed.new lines.new) result }
+    ensures full { IfOk result (λ values. vec_len values ≡ width * height) }
+{
+    read_sized_values(alloc, feed, lines, width, height)
+}
+
+/// Reads a grid of a known size, of a raster that has tiles.
 pub fn read_grid_part<S: Source>(
     alloc: Global,
     feed: &mut Feed<S>,

@@ -1,15 +1,15 @@
 use Rattle.std.proofs.Common.{◌∙◌, ◌++◌}
 use Rattle.std.specs.Prelude.{codes}
-use Rattle.std.proofs.lemmas.Result.{IfErr-weaker, IfOk-weaker, err_from_is_err_and}
+use Rattle.std.proofs.lemmas.Result.{err_from_is_err_and}
 use Rattle.insar_ports.specs.Calls.{call_of}
 use Rattle.text_lines.specs.LineWords.{lines_read}
-use Rattle.text_lines.specs.Reading.{HasLineCause}
 use Rattle.text_lines.proofs.StepLemmas.{cause_begin, cause_join, fails_next, joined, moves_join, moves_on, texts_join}
 use Rattle.grid_writer.specs.Grid.{columns_line, rows_line}
-use Rattle.grid_writer.specs.GridParts.{HasSizeWithin, IsBodyText, IsCountLine, IsGridTextIn}
+use Rattle.grid_writer.specs.GridParts.{IsBodyText, IsCountLine, IsGridTextIn}
+use Rattle.grid_writer.specs.Grids.{value_at}
 use Rattle.grid_writer.proofs.GridReads.{grid_read}
 use Rattle.grid_writer.proofs.HeadLemmas.{columns_whole, grid_after, grid_first, grid_second}
-use Rattle.grid_writer.proofs.SizeLemmas.{most_rows, sized_by, sized_within, some_rows, within_at, within_same}
+use Rattle.grid_writer.proofs.SizeLemmas.{most_rows, sized_within, some_rows, wide_by, within_at}
 use Rattle.grid_writer.proofs.read.read_within.Goals as goal
 
 pub returns-in_err-width-clause-refused : goal.returns-in_err-width-clause-refused
@@ -35,7 +35,7 @@ pub read_body-requires : goal.read_body-requires
 read_body-requires g c =
     let w = c.in_ok-width in
     let h = c.in_ok-height in
-    record { sized = sized_by w.width h.height (sized_within c.args.sizes c.requires w.width w.ensures.within.0 w.ensures.within.1 h.height h.ensures.within.0 (rw c.min-most_height.ensures at h.ensures.within.1)) }
+    record { sized = wide_by w.width h.height (sized_within c.args.sizes c.requires w.width w.ensures.within.0 w.ensures.within.1 h.height h.ensures.within.0 (rw c.min-most_height.ensures at h.ensures.within.1)) }
 
 pub returns-clause-moves : goal.returns-clause-moves
 returns-clause-moves g c = moves_on (moves_on c.read_count.ensures.moves c.read_count-2.ensures.moves) c.read_body.ensures.moves
@@ -44,7 +44,7 @@ pub returns-clause-size : goal.returns-clause-size
 returns-clause-size g c =
     let w = c.in_ok-width in
     let h = c.in_ok-height in
-    IfOk-weaker c.read_body.result (λ grid. _) (λ grid. HasSizeWithin c.args.sizes grid.width grid.height) (λ grid e. within_same c.args.sizes w.width h.height grid.width grid.height e (within_at c.args.sizes c.requires w.width w.ensures.within.0 w.ensures.within.1 h.height h.ensures.within.0 (rw c.min-most_height.ensures at h.ensures.within.1))) c.read_body.ensures.size
+    within_at c.args.sizes c.requires w.width w.ensures.within.0 w.ensures.within.1 h.height h.ensures.within.0 (rw c.min-most_height.ensures at h.ensures.within.1)
 
 pub returns-clause-read : goal.returns-clause-read
 unfolding columns_line rows_line
@@ -53,12 +53,14 @@ returns-clause-read g c =
     let b = call_of g.S.Source.left g.S.Source.faults c.read_count.new.feed c.read_count-2.new.feed in
     let done = lines_read c.args.lines.now in
     let here = lines_read c.read_count-2.new.lines in
-    grid_read c.read_body.result c.in_ok-width.width c.in_ok-height.height (joined a b) (call_of g.S.Source.left g.S.Source.faults c.read_count-2.new.feed c.read_body.new.feed) done here _ c.read_body.ensures.size
-    (texts_join a b (columns_line c.in_ok-width.width) (rows_line c.in_ok-height.height) done (lines_read c.read_count.new.lines) here c.in_ok-width.ensures.read c.in_ok-height.ensures.read) c.read_body.ensures.read
+    let w = c.in_ok-width in
+    let h = c.in_ok-height in
+    grid_read w.width h.height (value_at w.width c.in_ok-values.values.items) (joined a b) (call_of g.S.Source.left g.S.Source.faults c.read_count-2.new.feed c.read_body.new.feed) done here _
+    (texts_join a b (columns_line w.width) (rows_line h.height) done (lines_read c.read_count.new.lines) here w.ensures.read h.ensures.read) c.in_ok-values.ensures.read
 
-pub returns-clause-refused : goal.returns-clause-refused
+pub returns-in_err-values-clause-refused : goal.returns-in_err-values-clause-refused
 unfolding columns_line rows_line
-returns-clause-refused g c =
+returns-in_err-values-clause-refused g c =
     let s = c.args.sizes in
     let w = c.in_ok-width in
     let h = c.in_ok-height in
@@ -67,10 +69,12 @@ returns-clause-refused g c =
     let d = call_of g.S.Source.left g.S.Source.faults c.read_count-2.new.feed c.read_body.new.feed in
     let done = lines_read c.args.lines.now in
     let here = lines_read c.read_count-2.new.lines in
-    IfErr-weaker c.read_body.result (HasLineCause (IsBodyText w.width h.height) here d) (HasLineCause (IsGridTextIn s) done (joined (joined a b) d))
-    (λ fault cause. cause_join (columns_line w.width ++ rows_line h.height) (IsBodyText w.width h.height) (IsGridTextIn s) (grid_after s c.requires w.width w.ensures.within.0 w.ensures.within.1 h.height h.ensures.within.0 (rw c.min-most_height.ensures at h.ensures.within.1)) (joined a b) d done here fault (c.read_count-2.ensures.same_limit ∙ c.read_count.ensures.same_limit)
-    (moves_join a b c.read_count.ensures.moves c.read_count-2.ensures.moves) (texts_join a b (columns_line w.width) (rows_line h.height) done (lines_read c.read_count.new.lines) here w.ensures.read h.ensures.read) cause)
-    c.read_body.ensures.refused
+    let p = err_from_is_err_and c.from_residual-in_err-values.result c.from_residual-in_err-values.ensures.1 in
+    rw (p.1, p.2) (cause_join (columns_line w.width ++ rows_line h.height) (IsBodyText w.width h.height) (IsGridTextIn s) (grid_after s c.requires w.width w.ensures.within.0 w.ensures.within.1 h.height h.ensures.within.0 (rw c.min-most_height.ensures at h.ensures.within.1)) (joined a b) d done here c.in_err-values.field-0.0 (c.read_count-2.ensures.same_limit ∙ c.read_count.ensures.same_limit)
+    (moves_join a b c.read_count.ensures.moves c.read_count-2.ensures.moves) (texts_join a b (columns_line w.width) (rows_line h.height) done (lines_read c.read_count.new.lines) here w.ensures.read h.ensures.read) c.in_err-values.ensures.refused)
+
+pub returns-in_err-values-clause-moves : goal.returns-in_err-values-clause-moves
+returns-in_err-values-clause-moves g c = moves_on (moves_on c.read_count.ensures.moves c.read_count-2.ensures.moves) c.read_body.ensures.moves
 
 pub returns-in_err-height-clause-moves : goal.returns-in_err-height-clause-moves
 returns-in_err-height-clause-moves g c = moves_on c.read_count.ensures.moves c.read_count-2.ensures.moves

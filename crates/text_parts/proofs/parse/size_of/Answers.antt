@@ -1,10 +1,10 @@
 use Rattle.std.proofs.Common.{sym, ◌∙◌}
-use Rattle.text_parts.proofs.LineLemmas.{size_words}
+use Rattle.text_parts.proofs.LineLemmas.{tiled_whole}
 use Rattle.text_parts.proofs.ParseLemmas.{other_size}
 use Rattle.text_parts.proofs.parse.size_of.Goals as goal
 
 pub returns-in_err-width : goal.returns-in_err-width
-returns-in_err-width c = rw c.from_residual.ensures (λ s z e. c.in_err-width.ensures s (size_words s z) e)
+returns-in_err-width c = rw c.from_residual.ensures (λ s z e. c.in_err-width.ensures s (tiled_whole s z) e)
 
 pub returns-else-is_tiled_size : goal.returns-else-is_tiled_size
 returns-else-is_tiled_size c =

@@ -1,8 +1,8 @@
 use Rattle.raster_model.specs.Masks.{open_at}
-use Rattle.raster_model.specs.Scene.{raster_of}
-use Rattle.grid_writer.specs.Grids.{grid_of}
+use Rattle.raster_model.specs.Sheets.{sheet_raster}
+use Rattle.grid_writer.specs.Grids.{value_at}
 use Rattle.grid_writer.specs.Fits.{FitInRows}
 use Rattle.grid_writer.proofs.shown.ShownValues.first_unfit.Given as goal
 
 abbrev pub invariant-loop-y : goal.invariant-loop-y
-invariant-loop-y l = FitInRows (raster_of l.self.scene.now) (open_at l.self.mask.now) (grid_of l.self.grid.now).values l.y
+invariant-loop-y l = FitInRows (sheet_raster l.self.sheet.now) (open_at l.self.mask.now) (value_at l.self.sheet.now.phase.now.width l.self.values.now) l.y

@@ -24,9 +24,9 @@ use Rattle.report_check.specs.declared.verdict.CheckVerdict.{CheckVerdict}
 use Rattle.report_check.specs.declared.verdict.CheckVerdict.TheVariants.{Accepted, Header, History, Value, Tile, Seams, TileCost, SeamCost}
 use Rattle.report_check.specs.Shown.{IsGoodSurface}
 use Rattle.report_check.specs.Verdicts.{IsSurfaceVerdict, PassesSeams, PassesTiles, TilesAreCertified, surface_shown}
-use Rattle.grid_writer.specs.Fits.{AllValuesFit, FitsPhase, IsFirstUnfitValue, ValueFits, cycles_shown}
+use Rattle.grid_writer.specs.Fits.{AllValuesFit, FitsPhase, HasPhases, IsFirstUnfitValue, ValueFits, cycles_shown}
 use Rattle.report_check.proofs.MaskLemmas.{faces_verdict_too, same_region, seam_verdict_too}
-use Rattle.grid_writer.proofs.FitSurfaces.{HasPhases, shows_cycles}
+use Rattle.grid_writer.proofs.FitSurfaces.{shows_cycles}
 
 module _ (r : Raster) (mask : Field Bool) (k : SurfaceOf) (phases : HasPhases r) where
   shown_where : (x y : ℕ) → ValueFits r mask k.values x y → (b : Bool) → mask x y ≡ b → k.values x y ≡ (if b then surface_shown r k x y else no_data)

@@ -1,9 +1,12 @@
+ghost use Rattle.raster_model.specs.Scene.{raster_of};
+ghost use Rattle.raster_model.specs.Sheets.{sheet_raster};
 ghost use Rattle.raster_model.specs.Tiles.{tiles_of};
+ghost use Rattle.raster_model.specs.Whole.{whole_of};
 ghost use Rattle.std.specs.Prelude.{◌≡◌, IfNone, IfOk, IfSome, vec_len};
 
 use certificates::{SeamVerdict, TileVerdict, check_faces, check_flows};
 use grid_writer::ShownValues;
-use raster_model::{Mask, Scene};
+use raster_model::{Mask, Scene, Sheet};
 use report_text::ReportSurface;
 use seam_regions::Regions;
 use std::alloc::{AllocError, Global};
@@ -12,8 +15,11 @@ use std::alloc::{AllocError, Global};
 #[derive(Clone, Copy)]
 pub(crate) struct ShownSurface<'a> {
     pub(crate) scene: &'a Scene,
+    /// The scene without its tiles.
+    pub(crate) sheet: &'a Sheet<'a>,
     pub(crate) mask: &'a Mask,
     pub(crate) told: &'a ReportSurface,
+    pub(crate) ghost raster: { sheet_raster sheet.now ≡ whole_of (raster_of scene.now) },
     pub(crate) ghost mask_size: { (mask.now.width ≡ scene.now.phase.width) × (mask.now.height ≡ scene.now.phase.height) },
     pub(crate) ghost grid_size: { (told.now.grid.width ≡ scene.now.phase.width) × (told.now.grid.height ≡ scene.now.phase.height) },
     pub(crate) ghost one_each: { vec_len told.now.faces ≡ tiles_of scene.now.tiling },
@@ -26,14 +32,14 @@ impl ShownSurface<'_> {
 
     /// Its values.
     pub(crate) fn values(&self) -> ShownValues<'_>
-        ensures scene { result.scene.now ≡ self.now.scene.now }
+        ensures sheet { result.sheet.now ≡ self.now.sheet.now }
         ensures mask { result.mask.now ≡ self.now.mask.now }
-        ensures grid { result.grid.now ≡ self.now.told.now.grid }
+        ensures values { result.values.now ≡ self.now.told.now.grid.values.items }
     {
         ShownValues {
-            scene: self.scene,
+            sheet: self.sheet,
             mask: self.mask,
-            grid: &self.told.grid,
+            values: &self.told.grid.values,
         }
     }
 

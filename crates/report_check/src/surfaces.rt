@@ -68,6 +68,12 @@ fn surface_fault(
     requires fits { SurfaceFits scene.now.phase.width scene.now.phase.height (tiles_of scene.now.tiling) told.now }
     ensures { IfOk result (λ fault. MatchOption fault (IsGoodSurface (raster_of scene.now) (open_at mask.now) (told_surface told.now)) (IsSurfaceVerdict (raster_of scene.now) (open_at mask.now) revision (told_surface told.now))) }
 {
-    let shown = ShownSurface { scene, mask, told };
+    let sheet = scene.sheet();
+    let shown = ShownSurface {
+        scene,
+        sheet: &sheet,
+        mask,
+        told,
+    };
     shown.fault(alloc, revision)
 }

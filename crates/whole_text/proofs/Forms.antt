@@ -3,7 +3,7 @@ use Rattle.std.proofs.Common.{◌≡◌, ℕ, ◌-◌, ◌+◌, ◌*◌, ◌≤�
 use Rattle.std.specs.Prelude.{codes}
 use Rattle.std.proofs.lemmas.List.{append_cancel_left, length-append}
 use Rattle.std.proofs.lemmas.List.Elements.{All-from_recursion}
-use Rattle.raster_model.specs.Limits.{IsSteepness, is_tiled_size}
+use Rattle.raster_model.specs.Limits.{IsSteepness, is_raster_size}
 use Rattle.raster_model.specs.Sums.{Field}
 use Rattle.insar_ports.specs.Lines.{IsInLine}
 use Rattle.text_lines.specs.Forms.{Form}
@@ -17,15 +17,15 @@ use Rattle.text_lines.proofs.NumberLines.{line_short, text_in_line, zero_long}
 use Rattle.text_lines.proofs.SeqLemmas.{IsCode, SameForms, first_same, same_code}
 use Rattle.grid_writer.specs.Grid.{grid_text}
 use Rattle.grid_writer.specs.Grids.{AreLong}
-use Rattle.text_parts.specs.Parts.{IsRamp, IsRasterSize}
+use Rattle.text_parts.specs.Parts.{IsRamp, IsWholeSize}
 use Rattle.text_parts.specs.Steps.{TextOf, both, in_turn}
 use Rattle.text_parts.specs.Terms.{TermsOf}
 use Rattle.text_parts.specs.Text.{ended_line, known_line, ramp_line, rule_line, size_line, steep_line}
 use Rattle.text_parts.proofs.LineForms.{line_first, lines_after, lines_part}
 use Rattle.text_parts.proofs.LineLemmas.{Fits, fits_both, fits_more, wide_fits, word_fits, word_in_line}
-use Rattle.text_parts.proofs.PartForms.{grid_part, known_kind, ramp_kind, rule_kind, size_kind, steep_kind}
+use Rattle.text_parts.proofs.PartForms.{known_kind, ramp_kind, rule_kind, steep_kind, values_part, whole_size_kind}
 use Rattle.text_parts.proofs.ReadsLemmas.{IsLineKind, IsPart, One, Then, after_same, line_one, line_part, short_kind, then_after, then_apart, then_code, then_first, turn_one, turn_part}
-use Rattle.text_parts.proofs.UniqueLemmas.{ramp_unique, rule_unique, size_unique, steep_unique}
+use Rattle.text_parts.proofs.UniqueLemmas.{ramp_unique, rule_unique, steep_unique, whole_size_unique}
 use Rattle.whole_text.specs.Parts.{AreRows, HeadOf, IsFacesRow, IsHead, head_parts, lines_of_rows}
 use Rattle.whole_text.specs.Text.{AreCellFaces, IsWhole, IsWholeText, WholeOf, cell_rows, cost_line, face_row, face_rows, row_of, whole_text}
 use Rattle.whole_text.proofs.RowLemmas.{cells_stand, faces_are, list_length, list_longs, list_of, rows_make, rows_told}
@@ -86,8 +86,8 @@ ramp_part = turn_part (line_part ramp_kind) steep_part
 pub rule_part : IsPart (both IsAnyRule (both IsRamp (both IsSteepness IsWide))) (in_turn (ended_line rule_line) (in_turn (ended_line ramp_line) (in_turn (ended_line steep_line) (ended_line cost_line))))
 rule_part = turn_part (line_part rule_kind) ramp_part
 
-pub size_part : IsPart (both IsRasterSize (both IsAnyRule (both IsRamp (both IsSteepness IsWide)))) (in_turn (ended_line size_line) (in_turn (ended_line rule_line) (in_turn (ended_line ramp_line) (in_turn (ended_line steep_line) (ended_line cost_line)))))
-size_part = turn_part (line_part size_kind) rule_part
+pub size_part : IsPart (both IsWholeSize (both IsAnyRule (both IsRamp (both IsSteepness IsWide)))) (in_turn (ended_line size_line) (in_turn (ended_line rule_line) (in_turn (ended_line ramp_line) (in_turn (ended_line steep_line) (ended_line cost_line)))))
+size_part = turn_part (line_part whole_size_kind) rule_part
 
 pub head_part : IsPart IsHead head_parts
 head_part = turn_part (line_part first_kind) size_part
@@ -98,7 +98,7 @@ known_one a b p q e = refl
 pub head_one : One IsHead head_parts
 head_one =
     turn_one (line_part first_kind) size_part (line_one known_one)
-    (turn_one (line_part size_kind) rule_part (line_one size_unique)
+    (turn_one (line_part whole_size_kind) rule_part (line_one whole_size_unique)
     (turn_one (line_part rule_kind) ramp_part (line_one (λ p q _ _. rule_unique p q))
     (turn_one (line_part ramp_kind) steep_part (line_one ramp_unique)
     (turn_one (line_part steep_kind) cost_from (line_one steep_unique) (line_one cost_unique)))))
@@ -148,8 +148,8 @@ tail_text width height = in_turn (grid_text width height) (in_turn (face_rows wi
 pub end_part : (width height : ℕ) → IsPart (both (AreCellFaces width height) (IsAnyRule {A = Unit {0}})) (in_turn (face_rows width height) (ended_line (known_line (codes "end"))))
 end_part width height = turn_part (cells_part width height) (line_part end_kind)
 
-pub tail_part : (width height : ℕ) → IsTrue (is_tiled_size width height) → IsPart (IsTail width height) (tail_text width height)
-tail_part width height z = turn_part (grid_part width height z) (end_part width height)
+pub tail_part : (width height : ℕ) → IsTrue (is_raster_size width height) → IsPart (IsTail width height) (tail_text width height)
+tail_part width height z = turn_part (values_part width height z) (end_part width height)
 
 -- ---- the whole
 

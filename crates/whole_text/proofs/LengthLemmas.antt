@@ -6,8 +6,8 @@ use Rattle.std.proofs.lemmas.List.{length-append}
 use Rattle.text_lines.specs.Numbers.{numbers_text}
 use Rattle.text_lines.specs.Text.{field_text}
 use Rattle.text_parts.specs.Text.{ended_line, line_end, ramp_line, rule_line, size_line, steep_line}
-use Rattle.text_parts.proofs.LengthLemmas.{ended_short, grid_short, numbers_short, some_pixels, texts_short}
-use Rattle.text_parts.proofs.LineLemmas.{ramp_fits, rule_fits, size_fits, size_parts, steep_fits, wide_fits}
+use Rattle.text_parts.proofs.LengthLemmas.{ended_short, numbers_short, texts_short, whole_grid_short, whole_pixels}
+use Rattle.text_parts.proofs.LineLemmas.{ramp_fits, rule_fits, steep_fits, whole_parts, whole_size_fits, wide_fits}
 use Rattle.grid_writer.specs.Grid.{grid_text}
 use Rattle.whole_text.specs.Parts.{AreRows}
 use Rattle.whole_text.specs.Text.{AreCellFaces, IsWhole, WholeOf, cell_rows, cost_line, face_row, face_rows, row_of, whole_head, whole_text}
@@ -50,7 +50,7 @@ head_short w is =
       length-append rule (ramp ++ (steep ++ cost)),
       length-append ramp (steep ++ cost),
       length-append steep cost,
-      ended_short size_line (w.width, w.height) 128 (size_fits (w.width, w.height) is.sized).short,
+      ended_short size_line (w.width, w.height) 128 (whole_size_fits (w.width, w.height) is.sized).short,
       ended_short rule_line w.rule 128 (rule_fits w.rule).short,
       ended_short ramp_line (w.terms.ramp_x, w.terms.ramp_y) 128 (ramp_fits (w.terms.ramp_x, w.terms.ramp_y) is.ramp).short,
       ended_short steep_line w.terms.steep 128 (steep_fits w.terms.steep is.steepness).short,
@@ -70,15 +70,15 @@ whole_texts_are_short w is =
     let head = whole_head w.width w.height w.rule w.terms w.cost in
     let grid = grid_text w.width w.height w.values in
     let faces = face_rows w.width w.height w.faces in
-    let size = size_parts w.width w.height is.sized in
-    let some = some_pixels w.width w.height is.sized in
+    let size = whole_parts w.width w.height is.sized in
+    let some = whole_pixels w.width w.height is.sized in
     omega (
       arith,
       length-append head (grid ++ (faces ++ codes "end\n")),
       length-append grid (faces ++ codes "end\n"),
       length-append faces (codes "end\n"),
       head_short w is,
-      grid_short w.width w.height w.values is.values size.0 size.1,
+      whole_grid_short w.width w.height w.values is.values size.0 size.1,
       faces_short w.width w.height w.faces is.faces,
       counted w.width w.height some.0 some.1,
     )

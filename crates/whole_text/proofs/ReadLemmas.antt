@@ -11,7 +11,7 @@ use Rattle.text_parts.specs.Steps.{LinePlace, ReadsPart, TextOf, between}
 use Rattle.text_parts.specs.Text.{ended_line}
 use Rattle.text_parts.proofs.ReadsLemmas.{reads_ok, took}
 use Rattle.whole_text.specs.Parts.{AreRows, HeadOf, IsHead, head_parts, lines_of_rows, rows_in}
-use Rattle.whole_text.specs.Text.{AreCellFaces, IsWhole, WholeOf, cell_rows, face_row, face_rows, row_of, whole_text}
+use Rattle.whole_text.specs.Text.{AreCellFaces, cell_rows, face_row, face_rows, row_of}
 use Rattle.whole_text.proofs.Forms.{cells_same}
 use Rattle.whole_text.proofs.RowLemmas.{cells_counted, faces_are, row_before, row_new}
 
@@ -41,7 +41,3 @@ with_ramp p x y = (tt, (p.1.0, (p.1.1.0, ((x, y), p.1.1.1.1))))
 
 pub ramp_stored : (p : HeadOf) (x y a b : ℤ) → a ≡ x → b ≡ y → IsHead (with_ramp p x y) → IsHead (with_ramp p a b) × (head_parts (with_ramp p x y) ≡ head_parts (with_ramp p a b))
 ramp_stored p x y a b e f h = rw (e, f) (h, refl)
-
--- a text whose grid has the size of the head
-pub whole_sized : (v : ℕ → ℕ → WholeOf) (width height n m : ℕ) (text : List ℕ) → n ≡ width → m ≡ height → IsWhole (v width height) × (text ≡ whole_text (v width height)) → IsWhole (v n m) × (text ≡ whole_text (v n m))
-whole_sized v width height n m text e f h = rw (e, f) h

@@ -3,7 +3,8 @@ use Rattle.std.proofs.Common.{◌≡◌, ℕ, ◌-◌, ℤ, List, ◌++◌, sym,
 use Rattle.std.specs.Prelude.{codes}
 use Rattle.std.proofs.lemmas.List.{append_cancel_left, append_cancel_right}
 use Rattle.grid_writer.specs.Grids.{AreLong, GridOf}
-use Rattle.grid_writer.proofs.GridReads.{grids_cancel}
+use Rattle.grid_writer.proofs.GridReads.{wide_cancel}
+use Rattle.grid_writer.proofs.SizeLemmas.{wide_parts}
 use Rattle.text_lines.specs.Numbers.{numbers_text}
 use Rattle.text_lines.proofs.NumberLemmas.{numbers_unique}
 use Rattle.text_parts.specs.Text.{ended_line, known_line, line_end}
@@ -38,7 +39,8 @@ pub wholes_unique : WholeTextsAreUnique
 wholes_unique v w a b e =
     let t = whole_apart v w a b e in
     let here = subst (AreBehind (tail_text v.width v.height (tail_of v)) w) (sym t.0) (b.values, (b.faces, t.1)) in
-    let grids = grids_cancel (grid_by v.width v.height v) (grid_by v.width v.height w) (face_rows v.width v.height v.faces ++ last) (face_rows v.width v.height w.faces ++ last) (record { sized = a.sized; fits = a.values }) (record { sized = a.sized; fits = here.0 }) here.1.1 in
+    let size = wide_parts v.width v.height a.sized in
+    let grids = wide_cancel (grid_by v.width v.height v) (grid_by v.width v.height w) (face_rows v.width v.height v.faces ++ last) (face_rows v.width v.height w.faces ++ last) size size a.values here.0 here.1.1 in
     let values = grids.0 in
     record {
       width = ap (λ (p : HeadOf). p.1.0.0) t.0;

@@ -6,7 +6,7 @@ use Rattle.raster_model.specs.Limits.{IsSteepness}
 use Rattle.text_lines.specs.Numbers.{AreLongs}
 use Rattle.text_lines.specs.Parsing.{IsAnyRule, IsWide}
 use Rattle.text_lines.specs.Text.{texts_below}
-use Rattle.text_parts.specs.Parts.{IsRamp, IsRasterSize}
+use Rattle.text_parts.specs.Parts.{IsRamp, IsWholeSize}
 use Rattle.text_parts.specs.Steps.{both, in_turn}
 use Rattle.text_parts.specs.Text.{ended_line, known_line, ramp_line, rule_line, size_line, steep_line}
 use Rattle.whole_text.specs.declared.read.Head.{Head}
@@ -17,7 +17,7 @@ abbrev pub HeadOf : Type 0
 HeadOf = Unit {0} × ((ℕ × ℕ) × (RuleKind × ((ℤ × ℤ) × (ℕ × ℕ))))
 
 abbrev pub IsHead : HeadOf → Type 0
-IsHead = both IsAnyRule (both IsRasterSize (both IsAnyRule (both IsRamp (both IsSteepness IsWide))))
+IsHead = both IsAnyRule (both IsWholeSize (both IsAnyRule (both IsRamp (both IsSteepness IsWide))))
 
 abbrev pub head_parts : HeadOf → List ℕ
 head_parts = in_turn (ended_line (known_line (codes "insar-whole 1"))) (in_turn (ended_line size_line) (in_turn (ended_line rule_line) (in_turn (ended_line ramp_line) (in_turn (ended_line steep_line) (ended_line cost_line)))))

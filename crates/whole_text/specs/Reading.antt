@@ -10,7 +10,7 @@ use Rattle.whole_text.specs.Text.{IsWhole, IsWholeText, WholeOf, whole_text}
 
 -- what was read, as its text tells it
 abbrev pub whole_told : Whole → WholeOf
-whole_told whole = record { width = whole.grid.width; height = whole.grid.height; rule = whole.rule; terms = terms_of whole.terms; cost = whole.cost; values = value_at whole.grid.width whole.grid.values.items; faces = whole.faces.items }
+whole_told whole = record { width = whole.width; height = whole.height; rule = whole.rule; terms = terms_of whole.terms; cost = whole.cost; values = value_at whole.width whole.values.items; faces = whole.faces.items }
 
 -- Where bytes are told: those that were taken end with the first line with which no such text begins, or the input ends in a line
 -- that is cut or missing; or the limit cuts a line. Otherwise a fault of the source was counted, or memory ran out.

@@ -1,7 +1,7 @@
 -- The text of a surface over the whole raster with what certifies it, in the one spelling of this project.
 use Rattle.std.specs.Prelude.{◌≡◌, ℕ, ◌-◌, ◌*◌, ◌==◌, ℤ, IsTrue, if◌then◌else◌, List, ◌++◌, codes, drop, length, take}
 use Rattle.raster_model.specs.declared.weights.RuleKind.{RuleKind}
-use Rattle.raster_model.specs.Limits.{IsSlope, IsSteepness, is_tiled_size}
+use Rattle.raster_model.specs.Limits.{IsSlope, IsSteepness, is_raster_size}
 use Rattle.raster_model.specs.Sums.{Field}
 use Rattle.text_lines.specs.Forms.{Form}
 use Rattle.text_lines.specs.Numbers.{AreLongs, numbers_text}
@@ -56,7 +56,7 @@ AreCellFaces width height faces = AreLongs faces × (length faces ≡ (width - 1
 
 -- each number is in its range, and there is a face for each cell
 pub record IsWhole (whole : WholeOf) : Type 0 where
-  pub sized : IsTrue (is_tiled_size whole.width whole.height)
+  pub sized : IsTrue (is_raster_size whole.width whole.height)
   pub ramp : IsSlope whole.terms.ramp_x × IsSlope whole.terms.ramp_y
   pub steepness : IsSteepness whole.terms.steep
   pub cost : IsWide whole.cost

@@ -14,12 +14,12 @@ ghost use Rattle.whole_text.specs.Text.{AreCellFaces, IsWhole, IsWholeText, cost
 use crate::parse::{cost_of, faces_of};
 use crate::whole::{Whole, cell_rows_of};
 use insar_ports::{Feed, Source};
-use raster_model::{MAX_TILED_SIDE, RuleKind, Terms};
+use raster_model::{MAX_SIDE, RuleKind, Terms};
 use std::alloc::Global;
 use text_lines::{LineFault, Lines};
 use text_parts::{
-    LONGEST_LINE, LinedText, parsed, read_grid_part, read_known, read_line, read_ramp, read_rule,
-    read_size, read_steepness, read_to_end,
+    LONGEST_LINE, LinedText, parsed, read_known, read_line, read_ramp, read_rule, read_steepness,
+    read_to_end, read_values_part, read_whole_size,
 };
 
 /// How many bytes a face has at most, with the space before it.
@@ -51,7 +51,7 @@ fn read_head<S: Source>(feed: &mut Feed<S>, lines: &mut Lines) -> Result<Head, L
     ensures { ReadsPart head_in IsHead head_parts (place_of S.left S.faults feed.old lines.old) (place_of S.left S.faults feed.new lines.new) result }
 {
     read_known(feed, lines, b"insar-whole 1")?;
-    let (width, height) = read_size(feed, lines)?;
+    let (width, height) = read_whole_size(feed, lines)?;
     let rule = read_rule(feed, lines)?;
     let (ramp_x, ramp_y) = read_ramp(feed, lines)?;
     let steep = read_steepness(feed, lines)?;
@@ -76,7 +76,7 @@ fn read_row<S: Source>(
     lines: &mut Lines,
     across: usize,
 ) -> Result<Vec<i64>, LineFault>
-    requires { across ≤ (MAX_TILED_SIDE - 1) }
+    requires { across ≤ (MAX_SIDE - 1) }
     ensures { ReadsPart list_in (IsFacesRow across) (ended_line face_row) (place_of S.left S.faults feed.old lines.old) (place_of S.left S.faults feed.new lines.new) result }
 {
     read_line(feed, lines, WORD_BYTES + FACE_BYTES * across)?;
@@ -91,7 +91,7 @@ fn read_rows<S: Source>(
     across: usize,
     rows: u32,
 ) -> Result<Vec<i64>, LineFault>
-    requires { (across ≤ (MAX_TILED_SIDE - 1)) × (rows ≤ (MAX_TILED_SIDE - 1)) }
+    requires { (across ≤ (MAX_SIDE - 1)) × (rows ≤ (MAX_SIDE - 1)) }
     ensures read { ReadsPart (rows_in across) (AreRows across rows) (lines_of_rows rows) (place_of S.left S.faults feed.old lines.old) (place_of S.left S.faults feed.new lines.new) result }
     ensures count { IfOk result (λ faces. vec_len faces ≡ rows * across) }
     ensures longs { IfOk result (λ faces. AreLongs faces.items) }
@@ -112,7 +112,7 @@ fn read_faces<S: Source>(
     width: u32,
     height: u32,
 ) -> Result<Vec<i64>, LineFault>
-    requires { (1 ≤ width) × ((width ≤ MAX_TILED_SIDE) × ((1 ≤ height) × (height ≤ MAX_TILED_SIDE))) }
+    requires { (1 ≤ width) × ((width ≤ MAX_SIDE) × ((1 ≤ height) × (height ≤ MAX_SIDE))) }
     ensures { ReadsPart list_in (AreCellFaces width height) (face_rows width height) (place_of S.left S.faults feed.old lines.old) (place_of S.left S.faults feed.new lines.new) result }
 {
     let rows = cell_rows_of(width, height);
@@ -128,14 +128,16 @@ fn read_lines<S: Source>(
     ensures { ReadsPart whole_told IsWhole whole_text (place_of S.left S.faults feed.old lines.old) (place_of S.left S.faults feed.new lines.new) result }
 {
     let head = read_head(feed, lines)?;
-    let grid = read_grid_part(alloc, feed, lines, head.width, head.height)?;
+    let values = read_values_part(alloc, feed, lines, head.width, head.height)?;
     let faces = read_faces(alloc, feed, lines, head.width, head.height)?;
     read_known(feed, lines, b"end")?;
     Ok(Whole {
         rule: head.rule,
         terms: head.terms,
         cost: head.cost,
-        grid,
+        width: head.width,
+        height: head.height,
+        values,
         faces,
     })
 }

@@ -4,5 +4,5 @@ use Rattle.whole_text.proofs.write.add_head.Goals as goal
 
 pub returns : goal.returns
 returns g c =
-    let t = c.args.scene.now.terms in
+    let t = c.args.sheet.now.terms in
     adds_then c.bytes.ensures (adds_then c.add_size.ensures (adds_then c.add_rule.ensures (adds_then (rw (slope_is t.ramp_x t.across, slope_is t.ramp_y t.along) at c.add_ramp.ensures) (adds_then c.add_steepness.ensures c.add_cost.ensures))))

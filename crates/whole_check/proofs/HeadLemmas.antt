@@ -1,10 +1,10 @@
 -- The one line of the head that is the first to differ.
 use Rattle.std.proofs.Common.{◌≡◌, ℕ, arith}
-use Rattle.raster_model.specs.declared.session.Session.{Session}
 use Rattle.whole_text.specs.Text.{WholeOf}
+use Rattle.whole_text.specs.Told.{WholeTask}
 use Rattle.whole_check.specs.Verdicts.{HasWholeHead, WholeDiffersAt}
 
-module _ (s : Session) (v : WholeOf) where
+module _ (s : WholeTask) (v : WholeOf) where
   pub no_difference : (n : ℕ) → HasWholeHead s v → WholeDiffersAt s v n → ⊥
   no_difference n h d = grind arith
 

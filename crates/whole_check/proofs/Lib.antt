@@ -3,4 +3,4 @@ pub mod StandLemmas
 pub mod UniqueLemmas
 pub mod CheckLemmas
 pub mod SameLemmas
-mod SheetLemmas
+mod TaskLemmas

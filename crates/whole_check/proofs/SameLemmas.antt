@@ -3,23 +3,19 @@ use Rattle.std.proofs.Common.{◌≡◌, ◌∙◌, ℕ, ◌<◌, ℤ, List, Boo
 use Rattle.std.specs.Prelude.{◌≢◌, ◌^◌, pos, ◌+ℤ◌, ◌*ℤ◌, IsFalse, unsigned_abs}
 use Rattle.std.specs.Int.{int_div_euclid}
 use Rattle.std.proofs.lemmas.Int.{ints}
-use Rattle.raster_model.specs.declared.session.Session.{Session}
-use Rattle.raster_model.specs.Masks.{open_at}
 use Rattle.raster_model.specs.Raster.{Raster, lifted}
-use Rattle.raster_model.specs.Scene.{raster_of}
 use Rattle.raster_model.specs.Seams.{IsAnchored}
 use Rattle.raster_model.specs.Sums.{Field}
 use Rattle.raster_model.proofs.Exact.{lifted_is_congruent}
 use Rattle.grid_writer.specs.Values.{no_data}
 use Rattle.surface_snapshots.proofs.SameLemmas.{anchored_too, same_tile_cost, tile_too}
 use Rattle.text_parts.specs.Terms.{TermsOf}
-use Rattle.grid_writer.specs.Fits.{AllValuesFit, FitsPhase, ValueFits, cycles_shown}
-use Rattle.grid_writer.proofs.FitSurfaces.{HasPhases, has_phases}
+use Rattle.grid_writer.specs.Fits.{AllValuesFit, FitsPhase, HasPhases, ValueFits, cycles_shown}
 use Rattle.raster_model.specs.Whole.{IsCertifiedWhole, whole_cost, whole_of}
 use Rattle.raster_model.proofs.Whole.{whole_tile_cost}
 use Rattle.whole_text.specs.Reading.{IsSameWhole}
 use Rattle.whole_text.specs.Text.{WholeOf}
-use Rattle.whole_text.specs.Told.{AreFewCycles, value_above}
+use Rattle.whole_text.specs.Told.{AreFewCycles, WholeTask, value_above}
 use Rattle.whole_check.specs.Same.{AcceptanceIsOfWholes, CertifiedWholesAreAccepted}
 use Rattle.whole_check.specs.Verdicts.{HasWholeHead, surface_told}
 use Rattle.whole_check.proofs.StandLemmas.{shown_there}
@@ -39,7 +35,7 @@ module _ (r : Raster) (mask : Field Bool) (cycles others : Field ℤ) (agree : (
 
 -- ---- texts that tell the same
 
-same_head : (s : Session) (v w : WholeOf) → IsSameWhole v w → HasWholeHead s v → HasWholeHead s w
+same_head : (s : WholeTask) (v w : WholeOf) → IsSameWhole v w → HasWholeHead s v → HasWholeHead s w
 same_head s v w same h = record {
   size = (sym same.width ∙ h.size.0, sym same.height ∙ h.size.1);
   rule = sym same.rule ∙ h.rule;
@@ -52,8 +48,8 @@ same_fit r mask values others x y e f = record { masked = λ m. sym e ∙ f.mask
 
 pub acceptance_is_of_texts : AcceptanceIsOfWholes
 acceptance_is_of_texts s v w same c =
-    let r = raster_of s.scene in
-    let mask = open_at s.first_mask in
+    let r = s.raster in
+    let mask = s.mask in
     let size = c.head in
     let values : (x y : ℕ) → x < r.width → y < r.height → v.values x y ≡ w.values x y = λ x y l h. same.values x y (omega (arith, l, size.size.0)) (omega (arith, h, size.size.1)) in
     let agree : (x y : ℕ) → x < r.width → y < r.height → IsTrue (mask x y) → surface_told s v x y ≡ surface_told s w x y = λ x y l h o. ap (λ (z : ℤ). pos (r.phase x y) +ℤ pos 65536 *ℤ int_div_euclid z (pos 65536)) (values x y l h) in
@@ -87,11 +83,11 @@ module _ (r : Raster) (mask : Field Bool) (cycles : Field ℤ) where
   above_agrees phases few x y l h o = sym (above_open x y o) ∙ shown_there r mask (value_above r mask cycles) phases x y (above_fit few x y l h) o
 
 pub certified_wholes_are_accepted : CertifiedWholesAreAccepted
-certified_wholes_are_accepted s cycles faces cost solved =
-    let r = raster_of s.scene in
-    let mask = open_at s.first_mask in
+certified_wholes_are_accepted s is cycles faces cost solved =
+    let r = s.raster in
+    let mask = s.mask in
     let shown = cycles_shown (value_above r mask cycles) in
-    let agree = above_agrees r mask cycles (has_phases s.scene) solved.few in
+    let agree = above_agrees r mask cycles is.phases solved.few in
     record {
       head = record { size = (refl, refl); rule = refl; ramp = (refl, refl); steepness = refl };
       values = above_fit r mask cycles solved.few;

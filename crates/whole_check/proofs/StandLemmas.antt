@@ -5,8 +5,8 @@ use Rattle.raster_model.specs.Raster.{Raster, lifted}
 use Rattle.raster_model.specs.Seams.{IsAnchored, IsEarlier, IsFirstOpen}
 use Rattle.raster_model.specs.Sums.{Field}
 use Rattle.certificates.proofs.Unique.{same_pixel}
-use Rattle.grid_writer.specs.Fits.{AllValuesFit, IsFirstUnfitValue, ValueFits, cycles_shown}
-use Rattle.grid_writer.proofs.FitSurfaces.{HasPhases, shows_cycles}
+use Rattle.grid_writer.specs.Fits.{AllValuesFit, HasPhases, IsFirstUnfitValue, ValueFits, cycles_shown}
+use Rattle.grid_writer.proofs.FitSurfaces.{shows_cycles}
 use Rattle.whole_check.specs.Verdicts.{AllValuesStand, IsFirstFalseValue}
 
 earlier_then : (a b x y p q : ℕ) → IsEarlier a b x y → IsEarlier x y p q → IsEarlier a b p q

@@ -2,18 +2,15 @@
 use Rattle.std.proofs.Common.{◌≡◌, ◌∙◌, ℕ, ℤ, Bool, refl, sym, subst, ap, ap₂}
 use Rattle.std.specs.Prelude.{◌≢◌, ◌↔◌, pos}
 use Rattle.raster_model.specs.declared.edge.Edge.{Edge}
-use Rattle.raster_model.specs.declared.session.Session.{Session}
 use Rattle.raster_model.specs.Certificates.{face_bound}
-use Rattle.raster_model.specs.Masks.{open_at}
 use Rattle.raster_model.specs.Raster.{Raster}
-use Rattle.raster_model.specs.Scene.{raster_of}
 use Rattle.raster_model.specs.Sums.{Field}
 use Rattle.certificates.specs.Verdicts.{IsFirstUnfit}
 use Rattle.certificates.proofs.Unique.{same_break, same_pixel}
-use Rattle.grid_writer.proofs.FitSurfaces.{has_phases}
 use Rattle.raster_model.specs.Whole.{IsCertifiedWhole, IsLeastOfAll, whole_cost, whole_of}
 use Rattle.raster_model.proofs.Whole.{certified_whole_is_least, whole_tile_cost}
 use Rattle.whole_text.specs.Text.{WholeOf}
+use Rattle.whole_text.specs.Told.{IsWholeTask, WholeTask}
 use Rattle.whole_check.specs.declared.verdict.WholeVerdict.{WholeVerdict}
 use Rattle.whole_check.specs.declared.verdict.WholeVerdict.TheVariants.{Accepted, Header, Value, Face, Cost, Told}
 use Rattle.whole_check.specs.Verdicts.{HasWholeHead, IsCertifiedText, IsFirstFalseValue, IsWholeVerdict, PassesValues, WholeDiffersAt, WholesHaveOneVerdict, surface_told, whole_face}
@@ -23,18 +20,18 @@ use Rattle.whole_check.proofs.StandLemmas.{anchored_stand}
 same_number : {m n : ℕ} → pos m ≡ pos n → m ≡ n
 same_number e = cc
 
-module _ (s : Session) (v : WholeOf) where
+module _ (s : WholeTask) (is : IsWholeTask s) (v : WholeOf) where
   abbrev r : Raster
-  r = raster_of s.scene
+  r = s.raster
 
   abbrev mask : Field Bool
-  mask = open_at s.first_mask
+  mask = s.mask
 
   abbrev S : Field ℤ
   S = surface_told s v
 
   pub certified_passes : IsCertifiedText s v → PassesValues s v
-  certified_passes c = (c.head, anchored_stand r mask v.values (has_phases s.scene) c.values c.anchored)
+  certified_passes c = (c.head, anchored_stand r mask v.values is.phases c.values c.anchored)
 
   -- faces that certify fit at each edge, and their bound is the cost
   not_face : IsCertifiedWhole r mask S v.faces → (e : Edge) → IsFirstUnfit (whole_of r) mask 0 (whole_face s v) e → ⊥
@@ -92,17 +89,17 @@ module _ (s : Session) (v : WholeOf) where
   accepted_first (Told written counted) p q = sym (told_first written counted Accepted q p)
 
 pub wholes_have_one_verdict : WholesHaveOneVerdict
-wholes_have_one_verdict s v Accepted b p q = accepted_first s v b p q
-wholes_have_one_verdict s v (Header n) b p q = header_first s v n b p q
-wholes_have_one_verdict s v (Value x y) b p q = value_first s v x y b p.0 p.1 q
-wholes_have_one_verdict s v (Face e) b p q = face_first s v e b p.0 p.1 q
-wholes_have_one_verdict s v (Cost cost bound) b p q = cost_first s v cost bound b p q
-wholes_have_one_verdict s v (Told written counted) b p q = told_first s v written counted b p q
+wholes_have_one_verdict s is v Accepted b p q = accepted_first s is v b p q
+wholes_have_one_verdict s is v (Header n) b p q = header_first s is v n b p q
+wholes_have_one_verdict s is v (Value x y) b p q = value_first s is v x y b p.0 p.1 q
+wholes_have_one_verdict s is v (Face e) b p q = face_first s is v e b p.0 p.1 q
+wholes_have_one_verdict s is v (Cost cost bound) b p q = cost_first s is v cost bound b p q
+wholes_have_one_verdict s is v (Told written counted) b p q = told_first s is v written counted b p q
 
 -- ---- what acceptance says
 
-pub accepted_tells : (s : Session) (v : WholeOf) (verdict : WholeVerdict) → IsWholeVerdict s v verdict → (verdict ≡ Accepted) ↔ IsCertifiedText s v
-accepted_tells s v verdict h = (λ e. subst (λ (w : WholeVerdict). IsWholeVerdict s v w) e h, λ c. wholes_have_one_verdict s v verdict Accepted h c)
+pub accepted_tells : (s : WholeTask) → IsWholeTask s → (v : WholeOf) (verdict : WholeVerdict) → IsWholeVerdict s v verdict → (verdict ≡ Accepted) ↔ IsCertifiedText s v
+accepted_tells s is v verdict h = (λ e. subst (λ (w : WholeVerdict). IsWholeVerdict s v w) e h, λ c. wholes_have_one_verdict s is v verdict Accepted h c)
 
-pub certified_least : (s : Session) (v : WholeOf) → IsCertifiedText s v → IsLeastOfAll (raster_of s.scene) (open_at s.first_mask) (surface_told s v)
-certified_least s v c = certified_whole_is_least (raster_of s.scene) (open_at s.first_mask) (surface_told s v) v.faces c.certified
+pub certified_least : (s : WholeTask) (v : WholeOf) → IsCertifiedText s v → IsLeastOfAll s.raster s.mask (surface_told s v)
+certified_least s v c = certified_whole_is_least s.raster s.mask (surface_told s v) v.faces c.certified

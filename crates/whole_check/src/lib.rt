@@ -1,9 +1,9 @@
-//! The verdict on the text of a surface over the whole raster: it is certified for a session, or the first thing that is
-//! wrong with it. Contains no solver.
+//! The verdict on the text of a surface over the whole raster: it is certified for a sheet and a mask, or the first thing
+//! that is wrong with it. Contains no solver.
 #![tactic(auto)]
 
 mod check;
-mod header;
+mod judged;
 pub mod laws;
 mod values;
 mod verdict;

@@ -1,18 +1,17 @@
-ghost use Rattle.grid_writer.specs.Grids.{grid_of};
+ghost use Rattle.grid_writer.specs.Grids.{value_at};
 ghost use Rattle.raster_model.specs.Masks.{open_at};
-ghost use Rattle.raster_model.specs.Scene.{raster_of};
+ghost use Rattle.raster_model.specs.Sheets.{sheet_raster};
 ghost use Rattle.raster_model.specs.Seams.{IsEarlier, IsFirstOpen};
 ghost use Rattle.std.specs.Prelude.{◌≡◌, ◌≢◌, ◌↔◌, ℕ, IfNone, IfSome, IsTrue, pos};
 ghost use Rattle.whole_check.specs.Verdicts.{AllValuesStand, IsFirstFalseValue};
 
 use grid_writer::ShownValues;
-use raster_model::first_open;
 
 /// The first pixel in row order whose value does not fit its mask and its phase, or is not the phase though the pixel is the
 /// first open one.
 pub(crate) fn first_false_value(values: &ShownValues<'_>) -> Option<(u32, u32)>
-    ensures found { IfSome result (λ pixel. IsFirstFalseValue (raster_of values.now.scene.now) (open_at values.now.mask.now) (grid_of values.now.grid.now).values pixel.0 pixel.1) }
-    ensures none { IfNone result (AllValuesStand (raster_of values.now.scene.now) (open_at values.now.mask.now) (grid_of values.now.grid.now).values) }
+    ensures found { IfSome result (λ pixel. IsFirstFalseValue (sheet_raster values.now.sheet.now) (open_at values.now.mask.now) (value_at values.now.sheet.now.phase.now.width values.now.values.now) pixel.0 pixel.1) }
+    ensures none { IfNone result (AllValuesStand (sheet_raster values.now.sheet.now) (open_at values.now.mask.now) (value_at values.now.sheet.now.phase.now.width values.now.values.now)) }
 {
     let unfit = values.first_unfit();
     let Some(anchor) = off_anchor(values) else {
@@ -26,11 +25,11 @@ pub(crate) fn first_false_value(values: &ShownValues<'_>) -> Option<(u32, u32)>
 
 /// The first open pixel in row order, if its value is not the phase.
 fn off_anchor(values: &ShownValues<'_>) -> Option<(u32, u32)>
-    ensures found { IfSome result (λ pixel. IsFirstOpen (raster_of values.now.scene.now) (open_at values.now.mask.now) pixel.0 pixel.1 × ((grid_of values.now.grid.now).values pixel.0 pixel.1 ≢ pos ((raster_of values.now.scene.now).phase pixel.0 pixel.1))) }
-    ensures none { IfNone result ((x y : ℕ) → IsFirstOpen (raster_of values.now.scene.now) (open_at values.now.mask.now) x y → (grid_of values.now.grid.now).values x y ≡ pos ((raster_of values.now.scene.now).phase x y)) }
+    ensures found { IfSome result (λ pixel. IsFirstOpen (sheet_raster values.now.sheet.now) (open_at values.now.mask.now) pixel.0 pixel.1 × (value_at values.now.sheet.now.phase.now.width values.now.values.now pixel.0 pixel.1 ≢ pos ((sheet_raster values.now.sheet.now).phase pixel.0 pixel.1))) }
+    ensures none { IfNone result ((x y : ℕ) → IsFirstOpen (sheet_raster values.now.sheet.now) (open_at values.now.mask.now) x y → value_at values.now.sheet.now.phase.now.width values.now.values.now x y ≡ pos ((sheet_raster values.now.sheet.now).phase x y)) }
 {
-    let (x, y) = first_open(values.scene, values.mask)?;
-    let phase = i64::from(values.scene.phase.sample(x, y));
+    let (x, y) = values.sheet.first_open(values.mask)?;
+    let phase = i64::from(values.sheet.phase.sample(x, y));
     if values.value(x, y) == phase {
         None
     } else {

@@ -169,7 +169,7 @@ module _ (joining : Joining) (numbers : List ℕ) (total : ℕ) (is : HasTreeNum
         | inr o ↦ inr (rw place at (is.masked x y across along o))
       ]
 
-pub label_told : (least : ℕ) (numbers : List ℕ) (i total : ℕ) → slice_index numbers i < total → total ≤ 4194304 → part_label least numbers i ≡ rank_of least (size_of numbers) (slice_index numbers i)
+pub label_told : (least : ℕ) (numbers : List ℕ) (i total : ℕ) → slice_index numbers i < total → total ≤ 268435456 → part_label least numbers i ≡ rank_of least (size_of numbers) (slice_index numbers i)
 label_told least numbers i total l few = told (slice_index numbers i) (rank_of least (size_of numbers) (slice_index numbers i)) (omega (arith, l, few))
   where
     told : (n rank : ℕ) → n < 4294967295 → (if n == 4294967295 then 0 else rank) ≡ rank
@@ -179,7 +179,7 @@ pub label_none : (least : ℕ) (numbers : List ℕ) (i : ℕ) → slice_index nu
 label_none least numbers i e = rw e refl
 
 -- the labels after ranking are those of the parts
-pub labels_are : (joining : Joining) (numbers labels : List ℕ) (total least : ℕ) → 0 < joining.width → total ≤ 4194304 → HasTreeNumbers joining numbers total
+pub labels_are : (joining : Joining) (numbers labels : List ℕ) (total least : ℕ) → 0 < joining.width → total ≤ 268435456 → HasTreeNumbers joining numbers total
     → ((i : ℕ) → i < length numbers → slice_index numbers i < total → slice_index labels i ≡ rank_of least (size_of numbers) (slice_index numbers i))
     → ((i : ℕ) → i < length numbers → total ≤ slice_index numbers i → slice_index labels i ≡ 0)
     → (i : ℕ) → i < length numbers → slice_index labels i ≡ part_label least numbers i

@@ -1,9 +1,7 @@
 -- The labels, sizes and first pixels that are found are those of the parts.
 use Rattle.std.proofs.Common.{◌≡◌, ◌∙◌, ℕ, ◌+◌, ◌*◌, ◌<◌, ◌≤◌, refl, arith, List, length}
-use Rattle.std.specs.Prelude.{◌==◌, ◌&&◌, nat_le, IsTrue, slice_index}
+use Rattle.std.specs.Prelude.{◌==◌, slice_index}
 use Rattle.std.specs.List.{position_or_len}
-use Rattle.std.proofs.lemmas.Bool.Decides.{nat_tests}
-use Rattle.raster_model.specs.Limits.{is_tiled_size}
 use Rattle.joined_cells.specs.Measures.{AreMeasures}
 use Rattle.joined_cells.specs.Trees.{HasTreeNumbers}
 use Rattle.certain_parts.specs.Labels.{ArePartsOf, enough, rank_of, size_of}
@@ -13,18 +11,12 @@ use Rattle.certain_parts.specs.Parts.{parts_joined}
 use Rattle.certain_parts.proofs.Agreeing.{surfaces_agree}
 use Rattle.certain_parts.proofs.LabelLemmas.{has_pixel, labels_are, labels_tell}
 
-pub size_fits : (w h : ℕ) → (1 ≤ w) × (w ≤ 4096) → (1 ≤ h) × (h ≤ 4096) → w * h ≤ 4194304 → IsTrue (is_tiled_size w h)
-size_fits w h l m few = fits w h (w * h) l.0 l.1 m.0 m.1 few
-  where
-    fits : (w h n : ℕ) → 1 ≤ w → w ≤ 4096 → 1 ≤ h → h ≤ 4096 → n ≤ 4194304 → IsTrue (nat_le 1 w && nat_le w 4096 && nat_le 1 h && nat_le h 4096 && nat_le n 4194304)
-    fits w h n a b c d e = grind (arith, nat_tests)
-
-module _ (c : Faced) (limit least total count : ℕ) (numbers labels sizes firsts : List ℕ) (wide : 0 < c.raster.width) (few : c.raster.width * c.raster.height ≤ 4194304)
+module _ (c : Faced) (limit least total count : ℕ) (numbers labels sizes firsts : List ℕ) (wide : 0 < c.raster.width) (few : c.raster.width * c.raster.height ≤ 268435456)
     (is : HasTreeNumbers (parts_joined c limit) numbers total) (same : length labels ≡ length numbers)
     (ranked : (i : ℕ) → i < length numbers → slice_index numbers i < total → slice_index labels i ≡ rank_of least (size_of numbers) (slice_index numbers i))
     (other : (i : ℕ) → i < length numbers → total ≤ slice_index numbers i → slice_index labels i ≡ 0)
     (counted : count ≡ enough least (size_of numbers) total) (measured : AreMeasures labels (count + 1) sizes firsts) where
-  few_trees : total ≤ 4194304
+  few_trees : total ≤ 268435456
   few_trees = omega (arith, is.few, few)
 
   pub parts_are : ArePartsOf c limit least (record { width = c.raster.width; height = c.raster.height; labels = labels; count = count })

@@ -1,7 +1,7 @@
 -- The numbers of parts that have at least so many pixels: from 1, in the row order of their first pixels.
 use Rattle.std.specs.Prelude.{◌≡◌, ℕ, ◌+◌, ◌*◌, ◌/◌, ◌%◌, ◌<◌, ◌≤◌, ◌==◌, nat_le, List, length, if◌then◌else◌, slice_index}
 use Rattle.std.specs.List.{count_by, position_or_len}
-use Rattle.raster_model.specs.Limits.{max_tiled_pixels}
+use Rattle.raster_model.specs.Limits.{max_pixels}
 use Rattle.raster_model.specs.Sums.{Field}
 use Rattle.sums_and_lists.specs.Sums.{count_below, one_if}
 use Rattle.joined_cells.specs.Flood.{no_label}
@@ -50,6 +50,6 @@ pub record ArePartsOf (faced : Faced) (limit least : ℕ) (v : PartsView) : Type
   pub numbers : List ℕ
   pub total : ℕ
   pub parts : HasTreeNumbers (parts_joined faced limit) numbers total
-  pub few : total ≤ max_tiled_pixels
+  pub few : total ≤ max_pixels
   pub labels : (i : ℕ) → i < length v.labels → slice_index v.labels i ≡ part_label least numbers i
   pub count : v.count ≡ enough least (size_of numbers) total

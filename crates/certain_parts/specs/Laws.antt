@@ -1,7 +1,6 @@
 -- Laws of excesses, margins and parts of a certified surface.
 use Rattle.std.specs.Prelude.{◌≡◌, ◌≢◌, ℕ, ◌≤◌, ℤ, pos, ◌+ℤ◌, ◌-ℤ◌, ◌≤ℤ◌, ◌<ℤ◌, ◌↔◌, ◌<◌, IsTrue, length, slice_index}
 use Rattle.raster_model.specs.declared.edge.Edge.{Edge}
-use Rattle.raster_model.specs.declared.session.Session.{Session}
 use Rattle.raster_model.specs.Sums.{Field, is_edge, sum_edges}
 use Rattle.raster_model.specs.Raster.{IsCongruent, has_open_ends}
 use Rattle.raster_model.specs.Whole.{whole_cost}
@@ -14,6 +13,7 @@ use Rattle.certain_parts.specs.PartsView.{PartsView}
 use Rattle.certain_parts.specs.Told.{faced_told}
 use Rattle.whole_check.specs.Verdicts.{IsCertifiedText}
 use Rattle.whole_text.specs.Text.{WholeOf}
+use Rattle.whole_text.specs.Told.{IsWholeTask, WholeTask}
 
 -- no excess is below 0, and that of the surface's own departure is 0
 abbrev pub ExcessesAreLeastAtTheSurface : Type 0
@@ -57,4 +57,4 @@ PartsHaveOneText = (faced : Faced) (limit least : ℕ) (v w : PartsView) → Are
 
 -- what the certified text of a whole raster shows is certified, at a steepness from 1 on
 abbrev pub ToldIsCertified : Type 0
-ToldIsCertified = (session : Session) (told : WholeOf) → IsCertifiedText session told → IsCertified (faced_told session told) × (1 ≤ session.scene.terms.steep)
+ToldIsCertified = (task : WholeTask) → IsWholeTask task → (told : WholeOf) → IsCertifiedText task told → IsCertified (faced_told task told) × (1 ≤ task.raster.steep)

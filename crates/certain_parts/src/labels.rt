@@ -1,5 +1,5 @@
 ghost use Rattle.certain_parts.specs.Labels.{enough, rank_of, size_of};
-ghost use Rattle.raster_model.specs.Limits.{max_tiled_pixels};
+ghost use Rattle.raster_model.specs.Limits.{max_pixels};
 ghost use Rattle.std.specs.Prelude.{◌≡◌, ◌<◌, ◌≤◌, ℕ, IfOk, length, slice_index};
 
 use joined_cells::measure_trees;
@@ -13,8 +13,8 @@ pub(crate) fn rank_trees(
     total: u32,
     least: u32,
 ) -> Result<u32, AllocError>
-    requires room { length labels.old ≤ max_tiled_pixels }
-    requires few { total ≤ max_tiled_pixels }
+    requires room { length labels.old ≤ max_pixels }
+    requires few { total ≤ max_pixels }
     ensures same { length labels.new ≡ length labels.old }
     ensures ranked { IfOk result (λ count. (i : ℕ) → i < length labels.old → slice_index labels.old i < total → slice_index labels.new i ≡ rank_of least (size_of labels.old) (slice_index labels.old i)) }
     ensures other { IfOk result (λ count. (i : ℕ) → i < length labels.old → total ≤ slice_index labels.old i → slice_index labels.new i ≡ 0) }
@@ -30,7 +30,7 @@ pub(crate) fn rank_trees(
 /// Replaces each size that is at least `least` by how many such sizes there are up to it, and each other by 0. The result is
 /// how many there are.
 fn rank_sizes(sizes: &mut [u32], least: u32) -> u32
-    requires { length sizes.old ≤ max_tiled_pixels }
+    requires { length sizes.old ≤ max_pixels }
     ensures same { length sizes.new ≡ length sizes.old }
     ensures ranks { (n : ℕ) → n < length sizes.old → slice_index sizes.new n ≡ rank_of least (λ i. slice_index sizes.old i) n }
     ensures count { result ≡ enough least (λ i. slice_index sizes.old i) (length sizes.old) }

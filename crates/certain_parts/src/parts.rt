@@ -1,7 +1,7 @@
 use crate::edges::CertainEdges;
 use crate::labels::rank_trees;
 use joined_cells::{measure_trees, number_trees};
-use raster_model::{Heights, Mask, Scene};
+use raster_model::{Heights, Mask, Sheet};
 use std::alloc::{AllocError, Global};
 use std::marker::Model;
 
@@ -23,23 +23,22 @@ pub struct Parts {
 impl Model for Parts {
     ghost use Rattle.certain_parts.specs.Labels.{first_place, part_size};
     ghost use Rattle.certain_parts.specs.PartsView.{PartsView};
-    ghost use Rattle.raster_model.specs.Limits.{is_tiled_size};
+    ghost use Rattle.raster_model.specs.Limits.{is_raster_size};
     ghost use Rattle.std.specs.Prelude.{◌≡◌, ◌+◌, ◌-◌, ◌*◌, ◌<◌, ◌≤◌, ℕ, IsTrue, slice_index, vec_len};
 
     ghost Value = { PartsView };
 
     ghost view = { λ p. record { width = p.width; height = p.height; labels = p.labels.items; count = vec_len p.sizes - 1 } };
 
-    ghost invariant = { λ p. IsTrue (is_tiled_size p.width p.height) × (vec_len p.labels ≡ p.width * p.height) × (1 ≤ vec_len p.sizes) × (vec_len p.sizes ≤ p.width * p.height + 1) × (vec_len p.firsts ≡ vec_len p.sizes) × ((n : ℕ) → n < vec_len p.sizes → slice_index p.sizes.items n ≡ part_size (record { width = p.width; height = p.height; labels = p.labels.items; count = vec_len p.sizes - 1 }) n) × ((n : ℕ) → 1 ≤ n → n < vec_len p.sizes → slice_index p.firsts.items n ≡ first_place (record { width = p.width; height = p.height; labels = p.labels.items; count = vec_len p.sizes - 1 }) n) };
+    ghost invariant = { λ p. IsTrue (is_raster_size p.width p.height) × (vec_len p.labels ≡ p.width * p.height) × (1 ≤ vec_len p.sizes) × (vec_len p.sizes ≤ p.width * p.height + 1) × (vec_len p.firsts ≡ vec_len p.sizes) × ((n : ℕ) → n < vec_len p.sizes → slice_index p.sizes.items n ≡ part_size (record { width = p.width; height = p.height; labels = p.labels.items; count = vec_len p.sizes - 1 }) n) × ((n : ℕ) → 1 ≤ n → n < vec_len p.sizes → slice_index p.firsts.items n ≡ first_place (record { width = p.width; height = p.height; labels = p.labels.items; count = vec_len p.sizes - 1 }) n) };
 }
 
 impl Parts {
     ghost use Rattle.certain_parts.specs.Faces.{faced_by};
     ghost use Rattle.certain_parts.specs.Labels.{ArePartsOf, first_column, first_row, label_at, part_size};
-    ghost use Rattle.raster_model.specs.Heights.{KnowsOpen};
     ghost use Rattle.raster_model.specs.Masks.{open_at};
     ghost use Rattle.raster_model.specs.Raster.{lifted};
-    ghost use Rattle.raster_model.specs.Scene.{raster_of};
+    ghost use Rattle.raster_model.specs.Sheets.{sheet_raster};
     ghost use Rattle.raster_model.specs.Whole.{IsCertifiedWhole};
     ghost use Rattle.std.specs.Prelude.{◌≡◌, ◌*◌, ◌<◌, ◌≤◌, IfOk};
 
@@ -48,20 +47,19 @@ impl Parts {
     /// (Costantini 1998.)
     pub fn of<H: Heights>(
         alloc: Global,
-        scene: &Scene,
+        sheet: &Sheet<'_>,
         mask: &Mask,
         heights: &H,
         faces: &[i64],
         limit: u32,
         least: u32,
     ) -> Result<Parts, AllocError>
-        requires same_size { (mask.now.width ≡ scene.now.phase.width) × (mask.now.height ≡ scene.now.phase.height) }
-        requires known { KnowsOpen (raster_of scene.now) (open_at mask.now) (H.knows heights.now) }
-        requires certified { IsCertifiedWhole (raster_of scene.now) (open_at mask.now) (lifted (raster_of scene.now) (H.cycles_at heights.now)) faces.now }
-        ensures { IfOk result (λ made. ArePartsOf (faced_by (raster_of scene.now) (open_at mask.now) (H.cycles_at heights.now) faces.now) limit least made) }
+        requires same_size { (mask.now.width ≡ sheet.now.phase.now.width) × (mask.now.height ≡ sheet.now.phase.now.height) }
+        requires certified { IsCertifiedWhole (sheet_raster sheet.now) (open_at mask.now) (lifted (sheet_raster sheet.now) (H.cycles_at heights.now)) faces.now }
+        ensures { IfOk result (λ made. ArePartsOf (faced_by (sheet_raster sheet.now) (open_at mask.now) (H.cycles_at heights.now) faces.now) limit least made) }
     {
         let edges = CertainEdges {
-            scene,
+            sheet,
             mask,
             heights,
             faces,
@@ -71,8 +69,8 @@ impl Parts {
         let count = rank_trees(alloc, &mut trees.labels, trees.count, least)?;
         let measures = measure_trees(alloc, &trees.labels, count + 1)?;
         Ok(Parts {
-            width: scene.phase.width,
-            height: scene.phase.height,
+            width: mask.width(),
+            height: mask.height(),
             labels: trees.labels,
             sizes: measures.sizes,
             firsts: measures.firsts,

@@ -3,7 +3,7 @@ use Rattle.std.proofs.lemmas.Nat.{mul-le}
 use Rattle.std.proofs.lemmas.Int.{to_z-of_z}
 use Rattle.raster_model.specs.Masks.{open_at}
 use Rattle.raster_model.specs.Raster.{masked_weight}
-use Rattle.raster_model.specs.Scene.{raster_of}
+use Rattle.raster_model.specs.Sheets.{sheet_raster}
 use Rattle.certain_parts.specs.Faces.{faced_by}
 use Rattle.certain_parts.proofs.Excesses.{step_fits}
 use Rattle.certain_parts.proofs.MarginLemmas.{certified_by, margin_told, open_weight}
@@ -11,8 +11,8 @@ use Rattle.certain_parts.proofs.edges.CertainEdges.margin.Goals as goal
 
 pub step-requires : goal.step-requires
 step-requires g c =
-    let s = c.args.self.now.scene.now in
-    let r = raster_of s in
+    let s = c.args.self.now.sheet.now in
+    let r = sheet_raster s in
     let mask = open_at c.args.self.now.mask.now in
     let cycles = g.H.Heights.cycles_at c.args.self.now.heights.now in
     let faces = c.args.self.now.faces.now in
@@ -22,8 +22,8 @@ step-requires g c =
 
 pub margin_of-requires : goal.margin_of-requires
 margin_of-requires g c =
-    let s = c.args.self.now.scene.now in
-    let r = raster_of s in
+    let s = c.args.self.now.sheet.now in
+    let r = sheet_raster s in
     let mask = open_at c.args.self.now.mask.now in
     let cycles = g.H.Heights.cycles_at c.args.self.now.heights.now in
     let faces = c.args.self.now.faces.now in
@@ -37,8 +37,8 @@ margin_of-requires g c =
 
 pub returns : goal.returns
 returns g c =
-    let s = c.args.self.now.scene.now in
-    let r = raster_of s in
+    let s = c.args.self.now.sheet.now in
+    let r = sheet_raster s in
     let mask = open_at c.args.self.now.mask.now in
     let cycles = g.H.Heights.cycles_at c.args.self.now.heights.now in
     let faces = c.args.self.now.faces.now in

@@ -5,7 +5,7 @@ use Rattle.insar_ports.specs.Bytes.{GainsProperPrefix, with_end}
 use Rattle.insar_ports.specs.declared.sink.WriteFault.{WriteFault}
 use Rattle.insar_ports.proofs.CallLemmas.{at_told, if_told}
 use Rattle.text_lines.specs.Adding.{Puts}
-use Rattle.session_script.specs.Sessions.{session_of}
+use Rattle.session_script.specs.Sessions.{session_of, whole_session_of}
 use Rattle.report_text.specs.Text.{report_text}
 use Rattle.insar_words.specs.Requests.{options_of}
 use Rattle.insar_words.specs.declared.request.Request.{Request}
@@ -48,7 +48,7 @@ answer_input (Trial trial) bytes status text a = tt
 answer_input (Screen screening) bytes status text a = (session_of a.1.session, a.1.spelled)
 answer_input Closure bytes status text a = loop_input bytes a.1.0 a.1.1.0
 answer_input (Displacement displacing) bytes status text a = sight_input (sight_of displacing) bytes a.1.output a.1.displaced
-answer_input (Whole settings) bytes status text a = (session_of a.1.session, a.1.given.spelled)
+answer_input (Whole settings) bytes status text a = (whole_session_of a.1.session, a.1.given.spelled)
 answer_input (CheckWhole settings) bytes status text a = judged_input (options_of settings) bytes a.0 a.1.0
 answer_input (Watch watching) bytes status text a = (session_of a.1.session, a.1.given.spelled)
 answer_input Nearest bytes status text a = nearest_input bytes a.1.output a.1.nearest

@@ -8,14 +8,16 @@ use Rattle.insar_ports.proofs.CallLemmas.{at_told, if_told, risen_before}
 use Rattle.raster_model.specs.declared.session.Session.{Session}
 use Rattle.edge_weights.specs.declared.settings.SceneSettings.{SceneSettings}
 use Rattle.edge_weights.specs.Sessions.{HasSettings}
+use Rattle.edge_weights.specs.declared.whole.WholeSession.{WholeSession}
 use Rattle.insar_words.specs.Asked.{Options}
 use Rattle.insar_words.specs.Requests.{options_of}
 use Rattle.insar_words.specs.declared.settings.Settings.{Settings}
 use Rattle.session_script.specs.declared.session_use.SessionUse.TheVariants.{BeforeReport}
+use Rattle.session_script.specs.Layouts.{Layout, as_whole, in_tiles}
 use Rattle.session_script.specs.Reaching.{Reaches}
-use Rattle.session_script.specs.Sessions.{IsSameSession, IsSessionIn, session_of}
-use Rattle.session_script.proofs.AskSession.{no_fault_of_session}
-use Rattle.session_script.proofs.SessionAgain.{one_session}
+use Rattle.session_script.specs.Sessions.{IsSameSession, IsSessionIn, IsSessionLaid, IsWholeSessionIn, SessionOf, session_of, whole_session_of}
+use Rattle.session_script.proofs.AskSession.{no_fault_of_laid}
+use Rattle.session_script.proofs.SessionAgain.{one_laid}
 use Rattle.text_lines.specs.Forms.{Begins, EndsIn, Form}
 use Rattle.text_lines.specs.declared.fault.LineFault.{LineFault}
 use Rattle.text_lines.specs.declared.fault.LineFault.TheVariants as line_faults
@@ -26,19 +28,24 @@ use Rattle.report_check.specs.Same.{IsSameInput, IsSamePlane}
 use Rattle.answer_lines.specs.Refusals.{report_refusal}
 use Rattle.answer_lines.specs.declared.refusal.Refusal.{Refusal}
 use Rattle.answer_lines.specs.declared.refusal.Refusal.TheVariants as refusals
-use Rattle.insar_commands.specs.Both.{AfterSession, AreRead, BreaksBothBy, IsBoth, IsCheckableBy, IsFirstRead, IsJudgedBy, IsStatusBy, IsToldBy, IsTooLong, IsVerdictBy, most_of_text}
+use Rattle.insar_commands.specs.Both.{AfterLaid, AreRead, BreaksBothBy, IsBoth, IsBothBy, IsCheckableBy, IsFirstRead, IsJudgedBy, IsStatusBy, IsToldBy, IsTooLong, IsVerdictBy, most_of_text}
 use Rattle.insar_commands.specs.Causes.{HasReadCause}
-use Rattle.insar_commands.specs.Options.{HasOptions}
+use Rattle.insar_commands.specs.Options.{HasOptions, HasWholeOptions}
 use Rattle.insar_commands.specs.Run.{ReadsAll, Run}
 use Rattle.insar_commands.proofs.SessionLemmas.{nothing_left, on_options, same_terms}
 
 -- ---- the session
 
 -- it was read from the front, and is on the options of the settings
-pub first_read : (settings : Settings) (scene : SceneSettings) (s : Session) → (scene.side ≡ settings.side) × ((scene.rule ≡ settings.rule) × (scene.terms ≡ settings.terms)) → HasSettings scene s.scene → (c : Call) → Reaches c (λ bytes rest. IsSessionIn BeforeReport scene.side bytes (session_of s) rest) → IsFirstRead (options_of settings) c.told c.left s
+pub first_read : (settings : Settings) (scene : SceneSettings) (s : Session) → (scene.side ≡ settings.side) × ((scene.rule ≡ settings.rule) × (scene.terms ≡ settings.terms)) → HasSettings scene s.scene → (c : Call) → Reaches c (λ bytes rest. IsSessionIn BeforeReport scene.side bytes (session_of s) rest) → IsFirstRead (in_tiles settings.side) session_of (HasOptions (options_of settings)) c.told c.left s
 first_read settings scene s is has c reaches = if_told c.told _ (λ bytes t.
     let h = at_told c.told _ bytes t reaches in
     (h.0, (h.1.0, (subst (λ (side : ℕ). IsSessionIn BeforeReport side bytes (session_of s) h.0) is.0 h.1.1.1, on_options settings scene s is has))))
+
+pub first_whole : (settings : Settings) (s : WholeSession) → HasWholeOptions (options_of settings) s → (c : Call) → Reaches c (λ bytes rest. IsWholeSessionIn BeforeReport bytes (whole_session_of s) rest) → IsFirstRead as_whole whole_session_of (HasWholeOptions (options_of settings)) c.told c.left s
+first_whole settings s on c reaches = if_told c.told _ (λ bytes t.
+    let h = at_told c.told _ bytes t reaches in
+    (h.0, (h.1.0, (h.1.1.1, on))))
 
 -- two sessions that bytes spell on the same options tell the same
 same_plane : (p q : Plane) → plane_of p ≡ plane_of q → IsSamePlane p q
@@ -65,77 +72,77 @@ same_input options s t same one other =
 -- and the texts after them are one
 pub same_both : (options : Options) (bytes : List ℕ) (s t : Session) (text other : List ℕ) → IsBoth options bytes s text → IsBoth options bytes t other → IsSameInput s t × (text ≡ other)
 same_both options bytes s t text other a b =
-    let same = one_session BeforeReport options.side bytes (session_of s) (session_of t) text other a.spelled b.spelled in
+    let same = one_laid BeforeReport (in_tiles options.side) bytes (session_of s) (session_of t) text other a.spelled b.spelled in
     (same_input options s t same.0 a.options_are b.options_are, same.1)
 
 -- ---- the text was read
 
-pub both_read : (options : Options) (s : Session) (whole : List ℕ) (told : Option (List ℕ)) (c : Call) (pending : List ℕ) (source : Option (List ℕ)) → c.left ≡ with_front pending source → c.limit ≡ c.at + most_of_text → c.end ≤ c.limit → IsFirstRead options told c.told s → Takes c (λ text rest. (text ≡ whole) × (rest ≡ []))
-    → AreRead options told source s whole
-both_read options s whole told c pending source l room within first takes = if_told told _ (λ bytes t.
+pub both_read : {X : Type 0} (layout : Layout) (view : X → SessionOf) (IsOn : X → Type 0) (s : X) (whole : List ℕ) (told : Option (List ℕ)) (c : Call) (pending : List ℕ) (source : Option (List ℕ)) → c.left ≡ with_front pending source → c.limit ≡ c.at + most_of_text layout → c.end ≤ c.limit → IsFirstRead layout view IsOn told c.told s → Takes c (λ text rest. (text ≡ whole) × (rest ≡ []))
+    → AreRead (IsBothBy layout view IsOn) told source s whole
+both_read layout view IsOn s whole told c pending source l room within first takes = if_told told _ (λ bytes t.
     let h = at_told told _ bytes t first in
     let u = at_told c.told _ h.0 h.1.0 takes in
     let text : h.0 ≡ whole = u.2.0 ∙ ap (λ (l : List ℕ). u.0 ++ l) u.2.1.1.1.1 ∙ append-nil u.0 ∙ u.2.1.1.1.0 in
-    let both : IsBoth options bytes s whole = record { spelled = subst (λ (r : List ℕ). IsSessionIn BeforeReport options.side bytes (session_of s) r) text h.1.1.0; options_are = h.1.1.1; within = subst (λ (t : List ℕ). length t ≤ most_of_text) u.2.1.1.1.0 (omega (arith, room, within, u.2.1.1.0)) } in
+    let both : IsBothBy layout view IsOn bytes s whole = record { spelled = subst (λ (r : List ℕ). IsSessionLaid BeforeReport layout bytes (view s) r) text h.1.1.0; options_are = h.1.1.1; within = subst (λ (t : List ℕ). length t ≤ most_of_text layout) u.2.1.1.1.0 (omega (arith, room, within, u.2.1.1.0)) } in
     (both, nothing_left pending source (sym l ∙ u.2.1.0 ∙ ap Some u.2.1.1.1.1)))
 
 -- ---- the text was not read, with its room
 
-module _ (F : Form) (rest : List ℕ) (left : Option (List ℕ)) (at end limit : ℕ) (room : limit ≡ at + most_of_text) (within : end ≤ limit) where
-  line_broken : (n : ℕ) (text more : List ℕ) → rest ≡ text ++ more → end ≡ at + length text → BreaksTextAt F n text ⊎ (EndsTextIn F n text × (more ≡ [])) → HasBrokenTextLine F most_of_text n rest
+module _ (F : Form) (most : ℕ) (rest : List ℕ) (left : Option (List ℕ)) (at end limit : ℕ) (room : limit ≡ at + most) (within : end ≤ limit) where
+  line_broken : (n : ℕ) (text more : List ℕ) → rest ≡ text ++ more → end ≡ at + length text → BreaksTextAt F n text ⊎ (EndsTextIn F n text × (more ≡ [])) → HasBrokenTextLine F most n rest
   line_broken n text more e p (inl b) = inl (text, more, (e, (omega (arith, room, within, p), b)))
   line_broken n text more e p (inr b) =
       let whole : text ≡ rest = sym (e ∙ ap (λ (l : List ℕ). text ++ l) b.1 ∙ append-nil text) in
       inr (let size = ap length whole in omega (arith, room, within, p, size), subst (EndsTextIn F n) whole b.0)
 
-  too_long : (text more : List ℕ) → rest ≡ text ++ more → left ≡ Some more → end ≡ at + length text → end ≡ limit → HasMore left → (n : ℕ) × EndsIn (Begins F) n text → IsTooLong F rest
+  too_long : (text more : List ℕ) → rest ≡ text ++ more → left ≡ Some more → end ≡ at + length text → end ≡ limit → HasMore left → (n : ℕ) × EndsIn (Begins F) n text → IsTooLong F most rest
   too_long text more e l p f m b =
       let some : 0 < length more = subst HasMore l m in
       let size = ap length e in
-      let whole : length text ≡ most_of_text = omega (arith, room, p, f) in
-      let cut : take most_of_text rest ≡ text = ap (take most_of_text) e ∙ take-append-le most_of_text text more (omega (arith, whole)) ∙ take_all most_of_text text (omega (arith, whole)) in
+      let whole : length text ≡ most = omega (arith, room, p, f) in
+      let cut : take most rest ≡ text = ap (take most) e ∙ take-append-le most text more (omega (arith, whole)) ∙ take_all most text (omega (arith, whole)) in
       (omega (arith, size, whole, some, length-append text more), (b.0, subst (EndsIn (Begins F) b.0) (sym cut) b.1))
 
-pub text_cause : (F : Form) (options : Options) (s : Session) (told : Option (List ℕ)) (before : ℕ) (c : Call) → c.limit ≡ c.at + most_of_text → c.end ≤ c.limit → before ≤ c.before → IsFirstRead options told c.told s → (fault : LineFault) → HasTextCause F c fault
-    → HasReadCause (BreaksBothBy F options.side) told before c.after (report_refusal fault)
-text_cause F options s told before c room within grows first (line_faults.Line n) h = if_told told _ (λ bytes t.
+pub text_cause : {X : Type 0} (F : Form) (layout : Layout) (view : X → SessionOf) (IsOn : X → Type 0) (s : X) (told : Option (List ℕ)) (before : ℕ) (c : Call) → c.limit ≡ c.at + most_of_text layout → c.end ≤ c.limit → before ≤ c.before → IsFirstRead layout view IsOn told c.told s → (fault : LineFault) → HasTextCause F c fault
+    → HasReadCause (BreaksBothBy F layout) told before c.after (report_refusal fault)
+text_cause F layout view IsOn s told before c room within grows first (line_faults.Line n) h = if_told told _ (λ bytes t.
     let f = at_told told _ bytes t first in
     let u = at_told c.told _ f.0 f.1.0 h in
-    (session_of s, f.0, (f.1.1.0, line_broken F f.0 c.left c.at c.end c.limit room within n u.0 u.1 u.2.0 u.2.1.1.0 u.2.1.1.1)))
-text_cause F options s told before c room within grows first line_faults.TooLong h = if_told told _ (λ bytes t.
+    (view s, f.0, (f.1.1.0, line_broken F (most_of_text layout) f.0 c.left c.at c.end c.limit room within n u.0 u.1 u.2.0 u.2.1.1.0 u.2.1.1.1)))
+text_cause F layout view IsOn s told before c room within grows first line_faults.TooLong h = if_told told _ (λ bytes t.
     let f = at_told told _ bytes t first in
     let u = at_told c.told _ f.0 f.1.0 h.1.1 in
-    (session_of s, f.0, (f.1.1.0, too_long F f.0 c.left c.at c.end c.limit room within u.0 u.1 u.2.0 u.2.1.0 u.2.1.1.0 h.0 h.1.0 u.2.1.1.1)))
-text_cause F options s told before c room within grows first line_faults.ReadFault h = risen_before before c.before c.after grows h
-text_cause F options s told before c room within grows first line_faults.Memory h = tt
+    (view s, f.0, (f.1.1.0, too_long F (most_of_text layout) f.0 c.left c.at c.end c.limit room within u.0 u.1 u.2.0 u.2.1.0 u.2.1.1.0 h.0 h.1.0 u.2.1.1.1)))
+text_cause F layout view IsOn s told before c room within grows first line_faults.ReadFault h = risen_before before c.before c.after grows h
+text_cause F layout view IsOn s told before c room within grows first line_faults.Memory h = tt
 
 -- ---- bytes with a break are no session with a text
 
-module _ (F : Form) (side : ℕ) (bytes : List ℕ) (checkable : IsCheckableBy F side bytes) where
-  same_rest : (P : List ℕ → Type 0) → AfterSession side bytes P → P checkable.1
-  same_rest P a = subst P (sym (one_session BeforeReport side bytes checkable.0 a.0 checkable.1 a.1 checkable.2.0 a.2.0).1) a.2.1
+module _ (F : Form) (layout : Layout) (bytes : List ℕ) (checkable : IsCheckableBy F layout bytes) where
+  same_rest : (P : List ℕ → Type 0) → AfterLaid layout bytes P → P checkable.1
+  same_rest P a = subst P (sym (one_laid BeforeReport layout bytes checkable.0 a.0 checkable.1 a.1 checkable.2.0 a.2.0).1) a.2.1
 
-  unbroken : (n : ℕ) → HasBrokenTextLine F most_of_text n checkable.1 → ⊥
+  unbroken : (n : ℕ) → HasBrokenTextLine F (most_of_text layout) n checkable.1 → ⊥
   unbroken n (inl (front, rest, (e, (le, b)))) = b.2.1.1 (rest, subst F e checkable.2.1.0)
   unbroken n (inr (le, b)) = b.1 checkable.2.1.0
 
-  not_long : IsTooLong F checkable.1 → ⊥
+  not_long : IsTooLong F (most_of_text layout) checkable.1 → ⊥
   not_long h = let le = checkable.2.1.1 in let lt = h.0 in omega (arith, le, lt)
 
-  pub not_checkable : (refusal : Refusal) → BreaksBothBy F side bytes refusal → ⊥
-  not_checkable (refusals.Input fault) h = no_fault_of_session BeforeReport side bytes checkable.0 checkable.1 fault checkable.2.0 h
-  not_checkable (refusals.ReportLine n) h = unbroken n (same_rest (HasBrokenTextLine F most_of_text n) h)
-  not_checkable refusals.ReportLong h = not_long (same_rest (IsTooLong F) h)
+  pub not_checkable : (refusal : Refusal) → BreaksBothBy F layout bytes refusal → ⊥
+  not_checkable (refusals.Input fault) h = no_fault_of_laid BeforeReport layout bytes checkable.0 checkable.1 fault checkable.2.0 h
+  not_checkable (refusals.ReportLine n) h = unbroken n (same_rest (HasBrokenTextLine F (most_of_text layout) n) h)
+  not_checkable refusals.ReportLong h = not_long (same_rest (IsTooLong F (most_of_text layout)) h)
   not_checkable refusal h = h
 
 -- ---- a verdict
 
 -- a text that answers, after its session and not too long, is judged
-pub judged_after : {T V : Type 0} {text_of : T → List ℕ} {InRange : T → Type 0} {IsVerdict : Session → T → V → Type 0} {verdict : V} (options : Options) (bytes : List ℕ) (s : Session) (told : T) (text : List ℕ) → text ≡ text_of told → IsSessionIn BeforeReport options.side bytes (session_of s) text → HasOptions options s → length text ≤ most_of_text → InRange told → IsVerdict s told verdict → IsJudgedBy text_of InRange IsVerdict options bytes verdict
-judged_after {text_of = text_of} options bytes s told text e spelled on short ranges is = record {
+pub judged_after : {X T V : Type 0} {text_of : T → List ℕ} {InRange : T → Type 0} {IsVerdict : X → T → V → Type 0} {verdict : V} (layout : Layout) (view : X → SessionOf) (IsOn : X → Type 0) (bytes : List ℕ) (s : X) (told : T) (text : List ℕ) → text ≡ text_of told → IsSessionLaid BeforeReport layout bytes (view s) text → IsOn s → length text ≤ most_of_text layout → InRange told → IsVerdict s told verdict → IsJudgedBy (IsBothBy layout view IsOn) text_of InRange IsVerdict bytes verdict
+judged_after {text_of = text_of} layout view IsOn bytes s told text e spelled on short ranges is = record {
   session = s;
   told = told;
-  both = record { spelled = subst (λ (t : List ℕ). IsSessionIn BeforeReport options.side bytes (session_of s) t) e spelled; options_are = on; within = subst (λ (t : List ℕ). length t ≤ most_of_text) e short };
+  both = record { spelled = subst (λ (t : List ℕ). IsSessionLaid BeforeReport layout bytes (view s) t) e spelled; options_are = on; within = subst (λ (t : List ℕ). length t ≤ most_of_text layout) e short };
   in_range = ranges;
   verdict_is = is;
 }

@@ -18,6 +18,7 @@ use Rattle.session_script.specs.declared.session_use.SessionUse.TheVariants.{Bef
 use Rattle.session_script.specs.Reaching.{Reaches}
 use Rattle.session_script.specs.declared.fault.SessionFault.{SessionFault}
 use Rattle.session_script.specs.Causes.{HasSessionCause}
+use Rattle.session_script.specs.Layouts.{in_tiles}
 use Rattle.session_script.specs.Sessions.{HasFault, IsSameSession, IsSessionIn, SessionOf}
 use Rattle.session_script.proofs.AskSession.{no_fault_of_session}
 use Rattle.session_script.proofs.SessionAgain.{one_session}
@@ -78,7 +79,7 @@ read_before side is told a c e left at s reaches = subst (λ (o : Option (List �
 
 -- or was not read
 pub unread_before : (side : ℕ) → side ≡ nearest_side → (a : Call) (fault : SessionFault) → HasSessionCause BeforeReport side a fault → HasReadCause BreaksNearest a.told a.before a.after (session_refusal fault)
-unread_before side is a fault h = session_cause BeforeReport side BreaksNearest (λ bytes other f. subst (λ (n : ℕ). HasFault BeforeReport n bytes other) is f) a fault h
+unread_before side is a fault h = session_cause BeforeReport (in_tiles side) BreaksNearest (λ bytes other f. subst (λ (n : ℕ). HasFault BeforeReport n bytes other) is f) a fault h
 
 -- the one grid of a list is its last
 pub one_grid : (items front : List Grid) (g : Grid) → length (grids_of items) ≡ 1 → items ≡ front ++ g ∷ [] → grids_of items ≡ grid_of g ∷ []

@@ -1,15 +1,12 @@
--- Sessions and whole surfaces that tell the same have the same verdicts.
+-- Whole surfaces that tell the same have the same verdicts for tasks that are the same.
 use Rattle.std.proofs.Common.{◌≡◌, ◌∙◌, ℕ, ◌*◌, ◌<◌, ◌≤◌, List, [], sym, ap, subst, arith}
 use Rattle.std.specs.Prelude.{Bool, ℤ, ◌≢◌, ◌+ℤ◌, ◌*ℤ◌, pos, IsTrue, if◌then◌else◌, unsigned_abs, ⊤}
 use Rattle.std.specs.Int.{int_div_euclid}
 use Rattle.std.proofs.lemmas.Bool.{and_parts}
 use Rattle.raster_model.specs.declared.edge.Edge.{Edge}
-use Rattle.raster_model.specs.declared.session.Session.{Session}
 use Rattle.raster_model.specs.Cells.{face_at}
 use Rattle.raster_model.specs.Certificates.{FacesFit, IsTileEdge, face_bound, face_difference, faces_of_tile}
-use Rattle.raster_model.specs.Masks.{open_at}
 use Rattle.raster_model.specs.Raster.{Raster, has_open_ends, is_inner, lifted}
-use Rattle.raster_model.specs.Scene.{raster_of}
 use Rattle.raster_model.specs.Seams.{IsAnchored}
 use Rattle.raster_model.specs.Sums.{Field, is_edge}
 use Rattle.raster_model.proofs.Exact.{lifted_is_congruent}
@@ -17,13 +14,12 @@ use Rattle.raster_model.proofs.MaskAgrees.{first_open_too, same_ends}
 use Rattle.certificates.specs.Verdicts.{AllFacesFit, IsFirstUnfit}
 use Rattle.surface_snapshots.proofs.SameLemmas.{anchored_too, same_face_bound, same_tile_cost, tile_too}
 use Rattle.grid_writer.specs.Fits.{AllValuesFit, FitsPhase, ValueFits, cycles_shown}
-use Rattle.report_check.specs.Same.{IsSameInput}
-use Rattle.report_check.proofs.EqualSessions.{are_alike}
 use Rattle.report_check.proofs.HeadLemmas.{numbers_alike}
 use Rattle.raster_model.specs.Whole.{IsCertifiedWhole, whole_cost, whole_of}
 use Rattle.raster_model.proofs.Whole.{whole_tile_cost}
 use Rattle.whole_text.specs.Reading.{IsSameWhole}
 use Rattle.whole_text.specs.Text.{WholeOf}
+use Rattle.whole_text.specs.Told.{WholeTask}
 use Rattle.whole_check.specs.declared.verdict.WholeVerdict.{WholeVerdict}
 use Rattle.whole_check.specs.declared.verdict.WholeVerdict.TheVariants.{Accepted, Header, Value, Face, Cost, Told}
 use Rattle.whole_check.specs.Verdicts.{AllValuesStand, HasWholeHead, IsFirstFalseValue, IsWholeVerdict, ValueStands, WholeDiffersAt}
@@ -126,31 +122,37 @@ module _ (r : Raster) (m n : Field Bool) (same : (x y : ℕ) → x < r.width →
   )
   says_too (Told written counted) h = (stood h.0, (certified h.1.0, (h.1.1.0 ∙ told, (h.1.1.1.0 ∙ cost, h.1.1.1.1))))
 
--- ---- sessions that tell the same
+-- ---- tasks that are the same
 
-module _ (s t : Session) (v w : WholeOf) (input : IsSameInput s t) (equal : IsSameWhole v w) where
-  head_too : HasWholeHead s v → HasWholeHead t w
+module _ (t u : WholeTask) (raster : t.raster ≡ u.raster) (rule : t.rule ≡ u.rule) (terms : t.terms ≡ u.terms) (unmasked : (x y : ℕ) → x < t.raster.width → y < t.raster.height → t.mask x y ≡ u.mask x y) (v w : WholeOf) (equal : IsSameWhole v w) where
+  wide : t.raster.width ≡ u.raster.width
+  wide = ap (λ (r : Raster). r.width) raster
+
+  high : t.raster.height ≡ u.raster.height
+  high = ap (λ (r : Raster). r.height) raster
+
+  head_too : HasWholeHead t v → HasWholeHead u w
   head_too h =
       let one = numbers_alike equal.terms in
-      let other = numbers_alike input.terms in
+      let other = numbers_alike terms in
       record {
-        size = (sym equal.width ∙ h.size.0 ∙ input.phase.width, sym equal.height ∙ h.size.1 ∙ input.phase.height);
-        rule = sym equal.rule ∙ h.rule ∙ input.rule;
+        size = (sym equal.width ∙ h.size.0 ∙ wide, sym equal.height ∙ h.size.1 ∙ high);
+        rule = sym equal.rule ∙ h.rule ∙ rule;
         ramp = (sym one.0 ∙ h.ramp.0 ∙ other.0, sym one.1 ∙ h.ramp.1 ∙ other.1);
         steepness = sym one.2 ∙ h.steepness ∙ other.2;
       }
 
-  differs_too : (k : ℕ) → WholeDiffersAt s v k → WholeDiffersAt t w k
-  differs_too k d = (let terms = numbers_alike input.terms in rw (equal.width, equal.height, equal.rule, equal.terms, input.phase.width, input.phase.height, input.rule, terms.0, terms.1, terms.2) at d)
+  differs_too : (k : ℕ) → WholeDiffersAt t v k → WholeDiffersAt u w k
+  differs_too k d = rw (equal.width, equal.height, equal.rule, equal.terms, wide, high, rule, terms) at d
 
-  said_too : HasWholeHead s v → (verdict : WholeVerdict) → Says (raster_of s.scene) (open_at s.first_mask) v verdict → Says (raster_of t.scene) (open_at t.first_mask) w verdict
+  said_too : HasWholeHead t v → (verdict : WholeVerdict) → Says t.raster t.mask v verdict → Says u.raster u.mask w verdict
   said_too h verdict says =
-      let r = raster_of s.scene in
+      let r = t.raster in
       let values : (x y : ℕ) → x < r.width → y < r.height → v.values x y ≡ w.values x y = λ x y l k. equal.values x y (omega (arith, l, h.size.0)) (omega (arith, k, h.size.1)) in
-      let here = says_too r (open_at s.first_mask) (open_at t.first_mask) input.unmasked v w values equal.faces equal.cost verdict says in
-      subst (λ (q : Raster). Says q (open_at t.first_mask) w verdict) (are_alike s t input []).raster here
+      let here = says_too r t.mask u.mask unmasked v w values equal.faces equal.cost verdict says in
+      subst (λ (q : Raster). Says q u.mask w verdict) raster here
 
-  pub whole_verdict_too : (verdict : WholeVerdict) → IsWholeVerdict s v verdict → IsWholeVerdict t w verdict
+  pub whole_verdict_too : (verdict : WholeVerdict) → IsWholeVerdict t v verdict → IsWholeVerdict u w verdict
   whole_verdict_too Accepted h =
       let k = said_too h.head Accepted (h.values, (h.anchored, (h.certified, h.cost))) in
       record { head = head_too h.head; values = k.0; anchored = k.1.0; certified = k.1.1.0; cost = k.1.1.1 }

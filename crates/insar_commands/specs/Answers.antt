@@ -16,7 +16,7 @@ use Rattle.insar_commands.specs.Screen.{IsScreenAnswer}
 use Rattle.insar_commands.specs.Trial.{IsTrialText}
 use Rattle.insar_commands.specs.Unwrap.{IsReportAnswer, IsSomeInput}
 use Rattle.insar_commands.specs.Watch.{IsWatchAnswer}
-use Rattle.insar_commands.specs.Whole.{IsWholeAnswer}
+use Rattle.insar_commands.specs.Whole.{IsSomeWholeInput, IsWholeAnswer}
 
 -- the bytes that a request is about, where the source tells them; `trial` is about none
 abbrev pub input_of : Request → Run → Option (List ℕ)
@@ -42,11 +42,11 @@ IsInputTo (Trial trial) bytes = ⊤
 IsInputTo (Screen screening) bytes = IsSomeInput screening.side bytes
 IsInputTo Closure bytes = IsLoopInput bytes
 IsInputTo (Displacement displacing) bytes = IsSightInput (sight_of displacing) bytes
-IsInputTo (Whole settings) bytes = IsSomeInput settings.side bytes
-IsInputTo (CheckWhole settings) bytes = IsWholeCheckable settings.side bytes
+IsInputTo (Whole settings) bytes = IsSomeWholeInput bytes
+IsInputTo (CheckWhole settings) bytes = IsWholeCheckable bytes
 IsInputTo (Watch watching) bytes = IsSomeInput watching.settings.side bytes
 IsInputTo Nearest bytes = IsNearestInput bytes
-IsInputTo (Parts parting) bytes = IsWholeCheckable parting.settings.side bytes
+IsInputTo (Parts parting) bytes = IsWholeCheckable bytes
 
 -- with this status, the text answers a request that is about these bytes
 abbrev pub IsAnswerTo : Request → List ℕ → ℕ → List ℕ → Type 0

@@ -13,6 +13,7 @@ use Rattle.insar_commands.specs.Displacement.{BreaksSight, sight_of}
 use Rattle.insar_commands.specs.Nearest.{BreaksNearest}
 use Rattle.insar_commands.specs.Run.{HasKept, Run, SinkFailed}
 use Rattle.insar_commands.specs.Unwrap.{BreaksAlone}
+use Rattle.insar_commands.specs.Whole.{BreaksWhole}
 
 -- the break of the bytes for which a request is refused
 abbrev pub BreaksInput : Request → List ℕ → Refusal → Type 0
@@ -23,11 +24,11 @@ BreaksInput (Trial trial) = λ bytes refusal. ⊥
 BreaksInput (Screen screening) = BreaksAlone screening.side
 BreaksInput Closure = BreaksLoop
 BreaksInput (Displacement displacing) = BreaksSight (sight_of displacing)
-BreaksInput (Whole settings) = BreaksAlone settings.side
-BreaksInput (CheckWhole settings) = BreaksBothWhole settings.side
+BreaksInput (Whole settings) = BreaksWhole
+BreaksInput (CheckWhole settings) = BreaksBothWhole
 BreaksInput (Watch watching) = BreaksAlone watching.settings.side
 BreaksInput Nearest = BreaksNearest
-BreaksInput (Parts parting) = BreaksBothWhole parting.settings.side
+BreaksInput (Parts parting) = BreaksBothWhole
 
 -- why bytes are not read: lack of memory, a counted fault of the source, or a break of the bytes where they are told
 abbrev pub HasReadCause : (List ℕ → Refusal → Type 0) → Option (List ℕ) → ℕ → ℕ → Refusal → Type 0

@@ -8,12 +8,13 @@ use Rattle.certain_parts.specs.Told.{faced_told}
 use Rattle.whole_check.specs.declared.verdict.WholeVerdict.TheVariants.{Accepted}
 use Rattle.insar_words.specs.Asked.{Options}
 use Rattle.insar_commands.specs.CheckWhole.{IsWholeJudged, IsWholeVerdictAnswer}
+use Rattle.insar_commands.specs.Whole.{whole_task}
 
 -- the bytes spell a session and a whole surface that is accepted, and the text is that of its parts at a limit that have at least so many pixels
 pub record IsPartsText (options : Options) (limit least : ℕ) (bytes text : List ℕ) : Type 0 where
   pub judged : IsWholeJudged options bytes Accepted
   pub parts : PartsView
-  pub found : ArePartsOf (faced_told judged.session judged.told) limit least parts
+  pub found : ArePartsOf (faced_told (whole_task judged.session) judged.told) limit least parts
   pub written : text ≡ parts_text parts (open_at judged.session.first_mask) limit least
 
 -- the status is 0 with the text of the parts, or 1 with what `check-whole` answers with that status

@@ -1,4 +1,4 @@
-//! Laws of the definitions. The functions do nothing; each contract is the law.
+//! Laws of the definitions. The functions do nothing; each contract is the law. One calls the law on which it rests.
 
 ghost use Rattle.insar_commands.specs.Causes.{BrokenBytesAreNoInput};
 ghost use Rattle.insar_commands.specs.Check.{AnswersAreAccepted, BytesHaveOneVerdict};
@@ -6,6 +6,8 @@ ghost use Rattle.insar_commands.specs.CheckWhole.{AcceptedWholesAreLeast, BytesH
 ghost use Rattle.insar_commands.specs.Grid.{LastSurfacesAreBest};
 ghost use Rattle.insar_commands.specs.Trial.{TrialsHaveOneText};
 ghost use Rattle.insar_commands.specs.Whole.{ReportsBoundTheLeast, TheFirstMaskIsThatOfRevision0};
+
+use session_script::laws::tiled_session_is_whole;
 
 /// Bytes that have a break for which a request is refused are not of the form that it reads.
 pub fn broken_bytes_are_no_input()
@@ -44,7 +46,9 @@ pub fn bytes_have_one_whole_verdict()
 pub fn reports_bound_the_least()
     ensures bound { ReportsBoundTheLeast }
     ensures first { TheFirstMaskIsThatOfRevision0 }
-{}
+{
+    tiled_session_is_whole();
+}
 
 /// The last surface of a session's report, whose grid `grid` writes, is the best at the mask of the newest published revision;
 /// there is none exactly if nothing was published.

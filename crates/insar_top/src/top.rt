@@ -182,10 +182,10 @@ fn do_request<R: Threads + Wait + Sync, S: Source, K: Sink, G: Gate>(
         Request::Closure => run_closure(alloc, source, sink),
         Request::Displacement(displacing) => run_displacement(alloc, displacing, source, sink),
         Request::Whole(settings) => run_whole(rt, alloc, settings, source, sink),
-        Request::CheckWhole(settings) => run_check_whole(alloc, settings, source, sink),
+        Request::CheckWhole(settings) => run_check_whole(rt, alloc, settings, source, sink),
         Request::Watch(watching) => run_watch(rt, alloc, watching, source, sink, gate),
         Request::Nearest => run_nearest(alloc, source, sink),
-        Request::Parts(parting) => run_parts(alloc, parting, source, sink),
+        Request::Parts(parting) => run_parts(rt, alloc, parting, source, sink),
     }
 }
 

@@ -4,6 +4,7 @@ use Rattle.insar_ports.specs.Calls.{Call, call_of}
 use Rattle.insar_ports.specs.Feeding.{pending_of}
 use Rattle.insar_words.specs.Requests.{options_of}
 use Rattle.session_script.specs.declared.session_use.SessionUse.TheVariants.{Alone}
+use Rattle.session_script.specs.Layouts.{in_tiles}
 use Rattle.session_script.specs.Sessions.{session_of}
 use Rattle.answer_lines.specs.Refusals.{session_refusal}
 use Rattle.insar_commands.specs.Causes.{HasReadCause}
@@ -20,7 +21,7 @@ returns-in_err-session-clause-refused g c =
     let side = c.scene_of-scene.result.side in
     let a : Call = call_of g.S.Source.left g.S.Source.faults c.in_ok-feed.feed feed in
     let fault = c.in_err-session.field-0.0 in
-    let cause : HasReadCause (BreaksAlone side) a.told a.before a.after (session_refusal fault) = session_cause Alone side (BreaksAlone side) (λ bytes fault h. h) a fault c.in_err-session.ensures.outcome.refused in
+    let cause : HasReadCause (BreaksAlone side) a.told a.before a.after (session_refusal fault) = session_cause Alone (in_tiles side) (BreaksAlone side) (λ bytes fault h. h) a fault c.in_err-session.ensures.outcome.refused in
     let refused : HasReadCause (BreaksAlone c.args.settings.side) (g.S.Source.left c.args.source.now) (g.S.Source.faults c.args.source.now) (g.S.Source.faults feed.source.now) (session_refusal fault) = rw (← c.scene_of-scene.ensures.side, ← made.left, ← made.faults) cause in
     rw (p.1, p.2) (search (rules, refused))
 
@@ -31,6 +32,6 @@ returns-clause-given g c =
     let scene = c.scene_of-scene.ensures in
     let a : Call = call_of g.S.Source.left g.S.Source.faults c.in_ok-feed.feed feed in
     let left = g.S.Source.left feed.source.now in
-    let all = read_alone a (pending_of feed) left c.scene_of-scene.result.side (session_of s) refl c.in_ok-session.ensures.outcome.read in
+    let all = read_alone a (pending_of feed) left (in_tiles c.scene_of-scene.result.side) (session_of s) refl c.in_ok-session.ensures.outcome.read in
     let read : ReadsAll (g.S.Source.left c.args.source.now) left (λ bytes. IsGiven (options_of c.args.settings) bytes s) = rw (← c.in_ok-feed.ensures.left) (given_alone c.args.settings c.scene_of-scene.result s (scene.side, (scene.rule, scene.terms)) c.in_ok-session.ensures.settings a.told left all) in
     search (rules, read)

@@ -61,7 +61,10 @@ fn told(rt: &impl Abort, alloc: Global, session: &Session, text: String) -> Stri
     let mut source = MemorySource::new(text.into_bytes(), 7, Vec::new(alloc));
     let mut feed = Feed::new(alloc, &mut source, 1000).expect(rt, "memory");
     let told = match read_whole(alloc, &mut feed) {
-        Ok(whole) => format!(in alloc; "{:?}", check_whole_text(session, &whole)),
+        Ok(whole) => {
+            let verdict = check_whole_text(&session.scene.sheet(), &session.first_mask, &whole);
+            format!(in alloc; "{verdict:?}")
+        }
         Err(fault) => format!(in alloc; "{fault:?}"),
     };
     told.expect(rt, "memory")

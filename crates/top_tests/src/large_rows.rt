@@ -64,6 +64,36 @@ fn a_large_slope_is_unwrapped(rt: HostRuntime) {
     assert!(rt; done.text.split_once(grid.as_str()).is_some());
 }
 
+/// The greatest width and the greatest height, each with a slope's last value: 300 for each column and 700 for each row before
+/// it.
+const LONGEST: &str = "\
+65535|2|19660900
+2|65535|45874100";
+
+/// A slope is its own surface, which costs nothing, and is accepted.
+fn is_its_surface<R: Alloc<A = Global> + Threads + Wait + Sync + Abort>(rt: &R, row: &str) {
+    let mut fields = row.split('|');
+    let (width, height) = (number(&mut fields), number(&mut fields));
+    let mut bytes = slope(rt, rt.alloc(), width, height, "end\n");
+    let done = run(rt, "whole", &bytes, 65536, &NOTHING, &OpenGate);
+    let last = format!(in rt.alloc(); "{}\nfaces ", field(&mut fields)).expect(rt, "memory");
+    assert!(rt;
+        lines_of(&done.text, "cost 0") == 1 && done.text.split_once(last.as_str()).is_some()
+    );
+    bytes
+        .extend_from_slice(done.text.as_bytes())
+        .expect(rt, "memory");
+    let judged = run(rt, "check-whole", &bytes, 65536, &NOTHING, &OpenGate);
+    assert!(rt; judged.text.as_str() == "accepted\n", "{row}");
+}
+
+#[test]
+fn slopes_of_the_greatest_sides_are_least(rt: HostRuntime) {
+    for row in LONGEST.lines() {
+        is_its_surface(&rt, row);
+    }
+}
+
 /// Two analysts with ten edits and five settle commands each.
 const SCRIPTS: &str = "\
 analyst

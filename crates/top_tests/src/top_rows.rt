@@ -215,6 +215,15 @@ whole|P2 2 2 65535 0 16384 49152 32768;analyst;mask 0 0 0 0;settle;show;end;|0|^
 whole||3|input fault 1 magic phase;
 whole|P2 4 1 65535 0 20000 40000 60000;analyst;settle;|3|input fault 14 no end;
 whole|P5;2 1;65535;....end;x|3|input fault 15 after end byte 21;
+-- A raster without tiles may have 65,535 pixels a side and 268,435,456 in all, and the text of its surface as well.
+whole|P5;65535 4096;65535;|3|input fault 6 short phase samples 0;
+whole|P5;65536 1;65535;|3|input fault 3 size phase 65536 1;
+whole|P5;65535 4097;65535;|3|input fault 3 size phase 65535 4097;
+check-whole|P5;1 65536;65535;|3|input fault 3 size phase 1 65536;
+check-whole|P2 1 1 65535 0;end;^65535 4096;|3|report fault line 3;
+check-whole|P2 1 1 65535 0;end;^65536 1;|3|report fault line 2;
+check-whole|P2 1 1 65535 0;end;^65535 4097;|3|report fault line 2;
+parts|P5;65536 1;65535;|3|input fault 3 size phase 65536 1;
 -- A surface of the whole raster is judged; in each of the others one thing is changed. Faces that are wrong at two edges are
 -- refused at the first, and a wrong line of the head before a wrong value.
 check-whole|P2 2 2 65535 0 16384 49152 32768 P2 2 2 9 5 5 3 9;end;^2 2;rule least;ramp 0 0;steep 1;cost 3;ncols 2;nrows 2;%0 16384;-16384 32768;faces 3;end;|0|accepted;

@@ -5,6 +5,7 @@ import re
 import subprocess
 import unittest
 from argparse import Namespace
+from dataclasses import replace
 from fractions import Fraction
 from pathlib import Path
 from typing import Any, List, Optional, Sequence
@@ -16,7 +17,7 @@ from osgeo import gdal, osr
 
 from wundjeska import displacements
 from wundjeska.displacements import LENGTHS, Sight, displaced, grid_text, wavelength_of
-from wundjeska.planes import CYCLE, session_of
+from wundjeska.planes import CYCLE, TILED_LIMITS, session_of
 from wundjeska.program import run_program
 from wundjeska.references import best_block, level_of, reference_of
 from wundjeska.report_reader import NODATA, read_grid_from, read_report
@@ -70,7 +71,7 @@ class Displaced(unittest.TestCase):
         for block in (1, 3, 4):
             sight = Sight(C_BAND, Fraction(7, 3), block)
             wanted = displaced(values, sight)
-            with mock.patch.multiple(displacements, MAX_SIDE=16, MAX_PIXELS=140):
+            with mock.patch.object(displacements, "TILED_LIMITS", replace(TILED_LIMITS, side=16, pixels=140)):
                 for rows, columns in displacements.parts_of(values.shape, block):
                     high, wide = values[rows, columns].shape
                     self.assertTrue(max(high + block, wide) <= 16 and (high + block) * wide <= 140)

@@ -60,6 +60,17 @@ class Told(InFolder):
         self.assertEqual(Needs(940, 25.2).told(), "needs about 0.9 GB and 25 s of a processor")
         self.assertEqual(Needs(1460, 400).told(), "needs about 1.5 GB and 7 minutes of a processor")
 
+    def test_large_rasters_and_long_rows(self) -> None:
+        """Runs of these held 3.4, 2.0, 1.9 and 2.5 GB."""
+        for width, height, is_filtered, has_page, wanted in (
+            (5000, 4000, True, False, "4.1"),
+            (65535, 100, True, False, "1.9"),
+            (5000, 4000, False, False, "2.1"),
+            (5000, 4000, False, True, "2.6"),
+        ):
+            needs = needs_of(width * height, width * height, is_filtered, has_page, width)
+            self.assertIn(f"about {wanted} GB", needs.told())
+
     def test_it_is_about_what_a_run_holds(self) -> None:
         """By what the system counts of the run, which begins with what the process held that starts it."""
         for words in ((), ("--no-filter",)):

@@ -86,7 +86,8 @@ class Arrays(unittest.TestCase):
             ((flat,), {"tile": 129}),
             ((flat,), {"rule": "most"}),
             ((flat,), {"workers": 0}),
-            ((np.zeros((4097, 1)),), {}),
+            ((np.zeros((4097, 1)),), {"tile": 64}),
+            ((np.zeros((65536, 1)),), {}),
             ((flat,), {"report": "/no/such/folder/report"}),
         )
         for words, more in refused:

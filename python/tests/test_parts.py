@@ -102,6 +102,13 @@ class Arrays(Older):
         for broken in (text[:-1], text + b"x", text.replace(b"part 0", b"part 00"), b""):
             self.assertRaises(BrokenLine, read_parts, broken, (1, 2), Bounds(), 30)
 
+    def test_parts_that_are_smaller_than_was_asked_for(self) -> None:
+        """The program's least size has a limit, and parts of large rasters have none."""
+        text = b"parts 2 3 1\npart 0 0 1\npart 1 0 2\n" + GRID.replace(b"ncols 2", b"ncols 3") + b"1 2 2\n"
+        for least, labels, sizes in ((1, [2, 1, 1], [2, 1]), (2, [0, 1, 1], [2]), (3, [0, 0, 0], [])):
+            found = read_parts(text, (1, 3), Bounds(0.1, least), 30)
+            self.assertEqual((found.labels.tolist(), found.sizes.tolist()), ([labels], sizes))
+
     def test_what_a_margin_is_a_share_of(self) -> None:
         """8 is the weight by looks of a coherence of 0, whose variance is pi^2 / 3: of half a radian it is 8 pi^2 / 3 / 0.25."""
         for looks, unit in ((None, 255), (8, 105)):

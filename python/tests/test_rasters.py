@@ -55,7 +55,7 @@ class Reading(InFolder):
 
     def test_a_large_raster_is_sent_to_frames(self) -> None:
         path = str(self.folder / "large.tif")
-        gdal.GetDriverByName("GTiff").Create(path, 4096, 1025, 1, gdal.GDT_Float32, ["SPARSE_OK=TRUE"]).FlushCache()
+        gdal.GetDriverByName("GTiff").Create(path, 65535, 4097, 1, gdal.GDT_Float32, ["SPARSE_OK=TRUE"]).FlushCache()
         status, line = command("to_session.py", path, self.folder / "session")
         self.assertEqual((status, "frames.py" in line), (3, True))
 

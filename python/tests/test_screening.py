@@ -5,15 +5,18 @@ import os
 import re
 import subprocess
 import unittest
+from dataclasses import replace
 from typing import List, Tuple
+from unittest import mock
 
 import numpy as np
 from helpers import HERE, InFolder, argv, command, raster
 from osgeo import gdal
 
 import wundjeska
+from wundjeska import screening
 from wundjeska.commands.page import DROPPED
-from wundjeska.planes import ramp_in, read_session, session_of
+from wundjeska.planes import TILED_LIMITS, ramp_in, read_session, session_of
 from wundjeska.program import program, run_program
 from wundjeska.screening import (
     ISLAND,
@@ -26,6 +29,7 @@ from wundjeska.screening import (
     fates_of,
     read_word,
     screened,
+    screened_by,
     terms_in,
 )
 from wundjeska.trouble import Trouble
@@ -100,6 +104,15 @@ class Rule(unittest.TestCase):
             np.testing.assert_array_equal(after.opened, fates_of(weights, opened, terms) == STAYS, str(terms))
             np.testing.assert_array_equal(after.phase, phase)
             np.testing.assert_array_equal(after.weights, weights)
+
+    def test_the_mask_of_a_large_raster_is_that_of_the_program(self) -> None:
+        for weights, opened, terms in self.cases():
+            before = session_of(weights * 1000, weights, opened, b"analyst\nsettle\nend\n", ramp=(7, -8))
+            wanted = screened(before, terms, "a case")
+            with mock.patch.object(screening, "TILED_LIMITS", replace(TILED_LIMITS, pixels=0)):
+                self.assertEqual(screened(before, terms, "a case"), wanted, str(terms))
+                self.assertIn("by Python", screened_by(before, wanted, terms, "a case").by_terms())
+            self.assertEqual(screened_by(before, wanted, terms, "a case").by_terms(), terms.told())
 
     def test_what_a_session_keeps(self) -> None:
         ones = np.ones((3, 4), dtype=np.uint16)

@@ -5,7 +5,7 @@ processor. Each figure has room for twice that. A job that is tried again asks f
 """
 from pathlib import Path
 
-MOST_PIXELS = 4_194_304  # of a raster that the program takes
+MOST_PIXELS = 4_194_304  # of a scene whose size is not known
 FIXED_MB = 300  # the interpreter, its libraries and the program
 BYTES_A_PIXEL = 270
 FIXED_MINUTES = 10

@@ -11,7 +11,7 @@ from typing import Iterator, Optional, Protocol, Tuple
 import numpy as np
 
 from .joining import Link, links_of, offsets_of
-from .planes import CYCLE, MAX_PIXELS, MAX_SIDE, TURN, Ramp
+from .planes import CYCLE, TILED_LIMITS, TURN, Ramp
 
 Window = Tuple[int, int, int, int]  # column, row, width, height
 Planes = Tuple[np.ndarray, np.ndarray, np.ndarray]  # phases, weights and open pixels
@@ -26,7 +26,7 @@ class Reader(Protocol):
 
 
 def block_for(size: Tuple[int, int]) -> int:
-    """The least side of blocks, 2 or more, of which a raster of (width, height) pixels has no more than can be solved at once."""
+    """The least side of blocks, 2 or more, of which a raster of (width, height) pixels has no more than `fits`, for little memory."""
     block = 2
     while not fits(blocks_in(size, block)):
         block += 1
@@ -34,7 +34,7 @@ def block_for(size: Tuple[int, int]) -> int:
 
 
 def fits(size: Tuple[int, int]) -> bool:
-    return max(size) <= MAX_SIDE and size[0] * size[1] <= MAX_PIXELS
+    return TILED_LIMITS.hold(size)
 
 
 def blocks_in(size: Tuple[int, int], block: int) -> Tuple[int, int]:

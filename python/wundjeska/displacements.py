@@ -13,7 +13,7 @@ from typing import Iterator, Tuple
 
 import numpy as np
 
-from .planes import CYCLE, MAX_PIXELS, MAX_SIDE
+from .planes import CYCLE, TILED_LIMITS
 from .program import run_program
 from .report_reader import NODATA, BrokenLine, read_grid_from
 from .trouble import DISAGREES, REFUSED_WORDS, Trouble
@@ -60,8 +60,8 @@ def read_grid(text: bytes, name: str) -> np.ndarray:
 
 def parts_of(shape: Tuple[int, ...], block: int) -> Iterator[Tuple[slice, slice]]:
     """The parts of a surface, of whole blocks, each of which fits into a grid with a row of blocks above it."""
-    wide = min(shape[1], MAX_SIDE // block * block)
-    high = (min(MAX_SIDE, MAX_PIXELS // wide) - block) // block * block
+    wide = min(shape[1], TILED_LIMITS.side // block * block)
+    high = (min(TILED_LIMITS.side, TILED_LIMITS.pixels // wide) - block) // block * block
     for row in range(0, shape[0], high):
         for column in range(0, shape[1], wide):
             yield slice(row, row + high), slice(column, column + wide)

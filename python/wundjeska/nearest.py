@@ -1,8 +1,9 @@
 """The surface that differs from a phase by whole cycles and lies nearest to another surface, its guide. NumPy alone.
 
 Whole numbers throughout: at each open pixel it differs from the phase by whole cycles, and from the guide by half a cycle at
-most. Where two are half a cycle away it is the lower one. The program's command `nearest` makes it. Programs before that command had
-none; for them, and as the judge of the tests, it is computed here as well.
+most. Where two are half a cycle away it is the lower one. The program's command `nearest` makes it, of a large raster part by part:
+each pixel's value is its own. Programs before that command had none; for them, and as the judge of the tests, it is computed here as
+well.
 """
 from functools import lru_cache
 
@@ -11,7 +12,7 @@ import numpy.typing as npt
 
 from .components import pieces_of, sizes_of
 from .displacements import grid_text, read_grid
-from .planes import CYCLE, session_of
+from .planes import CYCLE, TILED_LIMITS, session_of
 from .program import call, program, run_program
 from .report_reader import NODATA
 from .trouble import REFUSED_WORDS, Trouble
@@ -38,21 +39,30 @@ def nearest(phase: np.ndarray, guide: np.ndarray, opened: np.ndarray) -> npt.NDA
 
     Trouble if the shapes differ, if the guide has no value at an open pixel, or if the surface does not fit 64 bits.
     """
+    check_shapes(phase, guide, opened)
     way = by_program if has_command(program()) else by_numpy
-    return way(phase, guide, opened)
+    found = np.empty(phase.shape, dtype=np.int64)
+    for part in TILED_LIMITS.windows(phase.shape):
+        found[part] = way(phase[part], guide[part], opened[part])
+    return found
+
+
+def check_shapes(phase: np.ndarray, guide: np.ndarray, opened: np.ndarray) -> None:
+    """Trouble if the shapes differ."""
+    if not phase.shape == guide.shape == opened.shape:
+        raise Trouble(f"the surface has the shape {guide.shape}, the phase {phase.shape} and the mask {opened.shape}")
 
 
 def by_program(phase: np.ndarray, guide: np.ndarray, opened: np.ndarray) -> npt.NDArray[np.int64]:
-    """The same by the program's command."""
+    """The same by the program's command, of what is within its limits."""
     session = session_of(phase, np.ones(phase.shape, dtype=np.uint16), opened)
-    grid = grid_text(np.where(opened, guide, NODATA)) if guide.shape == opened.shape else grid_text(guide)
+    grid = grid_text(np.where(opened, guide, NODATA))
     return read_grid(run_program([COMMAND], session + grid, "the guide"), COMMAND)
 
 
 def by_numpy(phase: np.ndarray, guide: np.ndarray, opened: np.ndarray) -> npt.NDArray[np.int64]:
     """The same by NumPy."""
-    if not phase.shape == guide.shape == opened.shape:
-        raise Trouble(f"the surface has the shape {guide.shape}, the phase {phase.shape} and the mask {opened.shape}")
+    check_shapes(phase, guide, opened)
     if (guide[opened] == NODATA).any():
         raise Trouble("the surface has no value at an open pixel")
     steps = (phase.astype(np.uint16) - guide.astype(np.uint16)).view(np.int16)  # from -CYCLE / 2 to CYCLE / 2 - 1

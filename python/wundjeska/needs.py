@@ -1,6 +1,6 @@
 """What a raster needs, told before anything is begun: memory and time, by how many pixels it has. Python alone.
 
-Measured of made scenes of one and four million pixels: the most that all processes held at once, and seconds of a processor. It is
+Measured of made scenes of one, four and twenty million pixels: the most that all processes held at once, and seconds of a processor. It is
 a guess for others, so nothing is refused by it.
 """
 import os
@@ -10,8 +10,9 @@ from typing import Dict, Optional
 
 from .trouble import tell, warn
 
-FIXED_MB, PAGE_MB = 100, 100  # the interpreter and its libraries; a page
-BYTES, FILTERED_BYTES = 100, 200  # a pixel, without a filter and with one
+FIXED_MB = 100  # the interpreter and its libraries
+BYTES, FILTERED_BYTES, PAGE_BYTES = 100, 200, 25  # a pixel, without a filter and with one, and of a page besides
+BESIDE_BYTES, BAND_BYTES = 40, 24_000  # while the filter runs: a pixel, and a column of pixels for its bands, which counts in long rows
 SECONDS, FILTERED_SECONDS, PAGE_SECONDS = 2.5, 6.0, 2.0  # a million pixels
 LEAST_TOLD = 500_000  # pixels: of fewer nobody has to wait
 MEMORY = Path("/proc/meminfo")
@@ -35,11 +36,13 @@ class Needs:
         return f"needs about {self.memory / 1000:.1f} GB and {time} of a processor"
 
 
-def needs_of(pixels: int, at_once: int, is_filtered: bool, has_page: bool = False) -> Needs:
-    """What a raster of so many pixels needs of which so many are solved at once."""
+def needs_of(pixels: int, at_once: int, is_filtered: bool, has_page: bool = False, width: int = 0) -> Needs:
+    """What a raster of so many pixels needs of which so many are solved at once; rows of so many pixels are told if they may be long."""
     bytes_each, seconds = (FILTERED_BYTES, FILTERED_SECONDS) if is_filtered else (BYTES, SECONDS)
-    memory = FIXED_MB + at_once * bytes_each / MB + (PAGE_MB if has_page else 0)
-    return Needs(memory, pixels / MB * (seconds + (PAGE_SECONDS if has_page else 0)))
+    filtering = BESIDE_BYTES * at_once + BAND_BYTES * width if is_filtered else 0
+    if has_page:
+        bytes_each, seconds = bytes_each + PAGE_BYTES, seconds + PAGE_SECONDS
+    return Needs(FIXED_MB + max(at_once * bytes_each, filtering) / MB, pixels / MB * seconds)
 
 
 def number_in(path: Path) -> Optional[int]:

@@ -13,7 +13,7 @@ from typing import Callable, Optional, Tuple
 import numpy as np
 import numpy.typing as npt
 
-from .planes import MAX_PIXELS, ended, highest_weight
+from .planes import ended, highest_weight
 from .program import Problem, call, first_line, program
 from .report_reader import NODATA, SMALL, BrokenLine, Lines, read_grid
 from .trouble import DISAGREES, REFUSED_WORDS, Trouble, warn
@@ -21,6 +21,7 @@ from .weights import HALF_RADIAN, LINEAR_HIGHEST, unit_of
 
 COMMAND = "parts"
 MARGIN, LEAST = 0.08, 100  # if nothing else is said: a share of the unit of weights, and pixels
+MOST_LEAST = 4194304  # pixels, of what the program takes as the least size of a part
 HEAD = rb"parts %b %b %b" % ((SMALL,) * 3)
 PART = rb"part %b %b %b" % ((SMALL,) * 3)
 PROVED = (
@@ -113,7 +114,7 @@ class Certified:
         """The parts of the surface, by the program."""
         unit = unit_of(highest_weight(self.session))
         margin = int(bounds.margin * unit)
-        least = min(bounds.of_parts, MAX_PIXELS)
+        least = min(bounds.of_parts, MOST_LEAST)
         words = [COMMAND, *self.problem.words(), "--margin", str(margin), "--least", str(least)]
         status, out, told = call(words, ended(self.session) + self.text)
         if status == REFUSED_WORDS:
@@ -132,7 +133,8 @@ class Certified:
 
 
 def read_parts(text: bytes, shape: Tuple[int, int], bounds: Bounds, unit: int) -> Parts:
-    """Reads what `parts` wrote. Raises BrokenLine, or Trouble if its sizes are not those of its grid."""
+    """Reads what `parts` wrote, without parts that are smaller than was asked for. Raises BrokenLine, or Trouble if its sizes are not
+    those of its grid."""
     lines = Lines(io.BytesIO(text))
     count, margin, _ = map(int, lines.take_words(HEAD, "'parts COUNT MARGIN LEAST'"))
     told = array("q")  # there may be millions
@@ -145,9 +147,9 @@ def read_parts(text: bytes, shape: Tuple[int, int], bounds: Bounds, unit: int) -
     labels = np.where(opened, grid, 0)
     if labels.min() < 0 or labels.max() > count or not np.array_equal(np.bincount(labels.ravel(), minlength=count + 1)[1:], sizes):
         raise Trouble(f"{COMMAND}: its sizes are not those of its grid", DISAGREES)
-    order = np.argsort(-sizes, kind="stable")
+    order = np.argsort(-sizes, kind="stable")[: np.count_nonzero(sizes >= bounds.of_parts)]
     numbers = np.zeros(count + 1, dtype=np.uint32)
-    numbers[order + 1] = np.arange(1, count + 1)
+    numbers[order + 1] = np.arange(1, len(order) + 1)
     return Parts(numbers[labels], sizes[order], margin, unit, bounds, int(opened.sum()))
 
 

@@ -6,14 +6,13 @@ Arrays have the shape (rows, columns), and row 0 is the top one, in GDAL as in t
 import math
 import re
 from dataclasses import dataclass
-from typing import List, Optional, Set, Tuple
+from typing import Iterator, List, Optional, Set, Tuple
 
 import numpy as np
 
 from .trouble import Trouble, warn
 
 CYCLE = 65536  # units in a cycle
-MAX_SIDE, MAX_PIXELS = 4096, 4194304  # of one session
 MAX_WEIGHT = 255  # of linear coherence
 TURN = 2 * math.pi
 STEEPEST = 32767  # slope that can be expected
@@ -23,6 +22,46 @@ FARTHEST, SLACK, MANY = (
     0.01,
     10000,
 )  # radians beyond which 32 bits hold no phase; of rounding; pixels that tell a unit
+
+
+# Sizes
+
+
+@dataclass(frozen=True)
+class Limits:
+    """How large a raster may be: pixels along a side, and in all. `what` is such a raster, and `larger` what is to be done with others."""
+
+    side: int
+    pixels: int
+    what: str
+    larger: str
+
+    def hold(self, shape: Tuple[int, ...]) -> bool:
+        """Whether a raster of this shape, (rows, columns), is within them."""
+        return max(shape) <= self.side and shape[0] * shape[1] <= self.pixels
+
+    def told(self) -> str:
+        return f"{self.side} a side and {self.pixels} in all"
+
+    def check(self, shape: Tuple[int, ...], name: str) -> None:
+        """Trouble if a raster of this shape, (rows, columns), is beyond them."""
+        if not self.hold(shape):
+            has = f"{name} has {shape[1]} by {shape[0]} pixels"
+            raise Trouble(f"{has}; {self.what} has at most {self.told()}. {self.larger}")
+
+    def windows(self, shape: Tuple[int, ...]) -> Iterator[Tuple[slice, slice]]:
+        """The rows and columns of parts of a raster of this shape that are within them, from the top."""
+        wide = min(shape[1], self.side)
+        high = min(self.side, self.pixels // wide)
+        for row in range(0, shape[0], high):
+            for column in range(0, shape[1], wide):
+                yield slice(row, min(row + high, shape[0])), slice(column, min(column + wide, shape[1]))
+
+
+IN_FRAMES = "`wundjeska frames` (recipes/frames.py) cuts larger rasters into frames"
+WHOLE_LIMITS = Limits(65535, 268435456, "a raster", IN_FRAMES)  # of one that is solved at once
+AT_ONCE = f"Without tiles it is solved at once, up to {WHOLE_LIMITS.told()}"
+TILED_LIMITS = Limits(4096, 4194304, "a raster in tiles", AT_ONCE)  # and of what the program's other commands take
 
 
 # Phases, weights and masks
@@ -87,15 +126,6 @@ def check_coherence(coherence: np.ndarray, name: str, highest: float, hint: str 
         raise Trouble(
             f"{name} has values from {low * highest:g} to {high * highest:g}, wanted 0 to {highest:g}; if a greater number "
             f"stands for a coherence of 1, name it by {hint}"
-        )
-
-
-def check_size(width: int, height: int, name: str) -> None:
-    """Trouble if a raster does not fit into one session."""
-    if max(width, height) > MAX_SIDE or width * height > MAX_PIXELS:
-        raise Trouble(
-            f"{name} has {width} by {height} pixels; a session has at most {MAX_SIDE} a side and {MAX_PIXELS} in all. "
-            "`wundjeska frames` (recipes/frames.py) cuts larger rasters into frames"
         )
 
 
@@ -216,6 +246,14 @@ def highest_weight(text: bytes) -> int:
 def ended(text: bytes) -> bytes:
     """A session that ends, as one does that something follows."""
     return text if read_session(text).script else text + b"end\n"
+
+
+def shape_in(text: bytes) -> Tuple[int, int]:
+    """Rows and columns of a session, by its first header."""
+    header = HEADER.match(text)
+    if header is None:
+        raise Trouble("byte 0: no PGM plane begins here")
+    return int(header.group(3)), int(header.group(2))
 
 
 def read_session(text: bytes) -> Session:

@@ -60,6 +60,12 @@ def files_of(*rasters: Optional[gdal.Dataset]) -> List[str]:
 # What a raster is
 
 
+def shape_of(raster: gdal.Dataset) -> Tuple[int, int]:
+    """Rows and columns of a raster."""
+    width, height = size_of(raster)
+    return height, width
+
+
 def size_of(raster: gdal.Dataset) -> Tuple[int, int]:
     """Width and height in pixels."""
     return raster.RasterXSize, raster.RasterYSize

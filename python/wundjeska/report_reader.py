@@ -26,7 +26,8 @@ import numpy as np
 PathLike = Union[str, "os.PathLike[str]"]
 CYCLE = 65536  # units in a cycle
 NODATA = -(2**63)  # the value of a masked pixel
-MAX_SIDE, MAX_PIXELS = 4096, 4194304
+WHOLE_SIDE, WHOLE_PIXELS = 65535, 268435456  # that a raster may have which is solved at once
+TILED_SIDE, TILED_PIXELS = 4096, 4194304  # the same of one in tiles, and of a grid
 NUMBER = rb"(0|[1-9][0-9]{0,%d})"
 SMALL, COST = NUMBER % 9, NUMBER % 38  # with as many digits as 2^32 and 2^128
 SIGNED = rb"(?:0|-?[1-9][0-9]{0,18})"
@@ -184,9 +185,12 @@ class Lines:
     def refuse(self, why: str) -> NoReturn:
         raise BrokenLine(self.number, why)
 
-    def check_size(self, width: int, height: int) -> None:
-        if not 0 < width * height <= MAX_PIXELS:
-            self.refuse(f"a raster has from 1 to {MAX_PIXELS} pixels")
+    def check_size(self, width: int, height: int, is_whole: bool = False) -> None:
+        """Refuses a size that a raster cannot have which is solved at once, or else one in tiles."""
+        side, pixels = (WHOLE_SIDE, WHOLE_PIXELS) if is_whole else (TILED_SIDE, TILED_PIXELS)
+        if not (0 < width * height <= pixels and max(width, height) <= side):
+            what, more = ("a whole text", "") if is_whole else ("a raster in tiles", "; a whole text may be of more")
+            self.refuse(f"{what} is of from 1 to {pixels} pixels, and of at most {side} a side{more}")
 
     def at_most(self, limit: int, *words: bytes) -> Tuple[int, ...]:
         """The words as numbers up to the limit."""
@@ -241,8 +245,8 @@ def read_head(lines: Lines) -> Report:
     """The first four lines, six if the report has version 2, or five of a whole text."""
     (kind,) = lines.take_words(HEAD[0], "'insar-report 1', 'insar-report 2' or 'insar-whole 1'")
     is_whole, has_terms = kind == b"whole 1", kind != b"report 1"
-    width, height = lines.at_most(MAX_SIDE, *lines.take_words(HEAD[1], "'size WIDTH HEIGHT'"))
-    lines.check_size(width, height)
+    width, height = map(int, lines.take_words(HEAD[1], "'size WIDTH HEIGHT'"))
+    lines.check_size(width, height, is_whole)
     side = max(width, height) if is_whole else read_side(lines)
     (rule,) = lines.take_words(HEAD[3], "'rule least', 'rule mean' or 'rule product'")
     report = Report(width, height, side, rule.decode(), version=1 + has_terms, is_whole=is_whole)
@@ -343,8 +347,8 @@ def read_entries(lines: Lines, report: Report) -> None:
 def read_grid_from(file: BinaryIO) -> np.ndarray:
     """Reads what the command `grid` wrote, to its end; int64, (rows, columns), NODATA at masked pixels. Raises BrokenLine."""
     lines = Lines(file)
-    (width,) = lines.at_most(MAX_SIDE, *lines.take_words(rb"ncols %b" % SMALL, "'ncols WIDTH'"))
-    (height,) = lines.at_most(MAX_SIDE, *lines.take_words(rb"nrows %b" % SMALL, "'nrows HEIGHT'"))
+    (width,) = lines.at_most(TILED_SIDE, *lines.take_words(rb"ncols %b" % SMALL, "'ncols WIDTH'"))
+    (height,) = lines.at_most(TILED_SIDE, *lines.take_words(rb"nrows %b" % SMALL, "'nrows HEIGHT'"))
     lines.check_size(width, height)
     values = read_values(lines, width, height)
     lines.take_end()

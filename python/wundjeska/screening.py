@@ -6,7 +6,7 @@ it, to the right, left, above and below. So a pixel is dropped because it is wea
 patch is an island.
 
 The program makes the mask. The reasons are found here anew, of the session before, and the mask that they leave has to be the
-program's.
+program's. Of a raster that is too large for the program's `screen` they make the mask.
 """
 import re
 from argparse import ArgumentParser, ArgumentTypeError
@@ -16,18 +16,29 @@ from typing import Any, Dict, List, Mapping, Optional, Union
 import numpy as np
 
 from .components import pieces_of, sizes_of
-from .planes import MAX_PIXELS, comments_in, ramp_comment, ramp_in, read_session, with_comments
+from .planes import (
+    TILED_LIMITS,
+    comments_in,
+    highest_weight,
+    ramp_comment,
+    ramp_in,
+    read_session,
+    session_of,
+    shape_in,
+    with_comments,
+)
 from .program import run_program
 from .trouble import DISAGREES, REFUSED_WORDS, Trouble
 from .weights import HIGHEST, weights_of
 
 STAYS, WEAK, LONELY, ISLAND, MASKED = range(5)  # what becomes of a pixel; the last is that of those masked before
 NAMES = {WEAK: "weak", LONELY: "lonely", ISLAND: "in islands"}
-MOST = {"weight": HIGHEST, "radius": 64, "count": 129**2, "patch": MAX_PIXELS}
+MOST = {"weight": HIGHEST, "radius": 64, "count": 129**2, "patch": TILED_LIMITS.pixels}
 SIDE = 128  # of the tiles by which the program counts what edits cost; the largest has the fewest
 FORM = "parts as coherence=0.3,radius=3,count=20,patch=50"
 COMMENT = re.compile(rb"# wundjeska screen([^\n\r]*)")
 NUMBERS = re.compile(rb" (0|[1-9][0-9]{0,6})" * 4)
+IN_PYTHON = " (by Python, tested and not proved)"
 
 
 @dataclass(frozen=True)
@@ -201,6 +212,10 @@ class Screened:
     terms: Terms
     fates: np.ndarray
 
+    def by_terms(self) -> str:
+        """The terms, and whose mask it is if it is not the program's."""
+        return self.terms.told() + ("" if TILED_LIMITS.hold(self.fates.shape) else IN_PYTHON)
+
     def stays(self) -> np.ndarray:
         """True at each pixel that is open afterwards."""
         found: np.ndarray = self.fates == STAYS
@@ -252,6 +267,16 @@ def terms_in(text: bytes) -> Optional[Terms]:
 
 
 def screened(session: bytes, terms: Terms, name: str) -> bytes:
-    """The session that the program's `screen` makes, in which comments keep the ramp and the terms."""
-    text = run_program(["screen", *terms.words(), "--tile", str(SIDE)], session, name)
+    """The session that the program's `screen` makes, or of a large raster `by_rule`; its comments keep the ramp and the terms."""
+    if TILED_LIMITS.hold(shape_in(session)):
+        text = run_program(["screen", *terms.words(), "--tile", str(SIDE)], session, name)
+    else:
+        text = by_rule(session, terms)
     return with_comments(text, ramp_comment(ramp_in(session)) + terms.comment())
+
+
+def by_rule(session: bytes, terms: Terms) -> bytes:
+    """The session with the mask that the rule leaves, without comments."""
+    planes = read_session(session)
+    stays = fates_of(planes.weights, planes.opened, terms) == STAYS
+    return session_of(planes.phase, planes.weights, stays, planes.script, highest_weight(session))

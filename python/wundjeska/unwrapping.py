@@ -20,10 +20,12 @@ from .parts import MARGIN, Bounds, Certified, Parts, certified_of, parts_or_none
 from .planes import (
     CYCLE,
     MAX_WEIGHT,
+    TILED_LIMITS,
+    WHOLE_LIMITS,
+    Limits,
     Ramp,
     check_coherence,
     check_radians,
-    check_size,
     has_phase,
     phases_of,
     ramp_in,
@@ -62,6 +64,11 @@ class Settings:
     @property
     def is_whole(self) -> bool:
         return self.side is None
+
+    @property
+    def limits(self) -> Limits:
+        """How large a raster may be."""
+        return WHOLE_LIMITS if self.is_whole else TILED_LIMITS
 
     def problem(self, ramp: Optional[Ramp]) -> Problem:
         """What is solved about an expected ramp."""
@@ -130,7 +137,7 @@ def input_of(planes: Planes, making: Making) -> Input:
         screening = screened_by(before, session, terms, making.name)
         found = Input(session, weights, screening.stays(), ramp, before, making.has_coherence, screening)
         if not found.opened.any():
-            raise Trouble(f"{making.name}: no pixel stays open of the screen by {terms.told()}: {screening.told()}")
+            raise Trouble(f"{making.name}: no pixel stays open of the screen by {screening.by_terms()}: {screening.told()}")
     line = warning_of(found.opened, "--screen" if making.screen is not None else making.masked_by)
     if line:
         warn(line)
@@ -337,13 +344,16 @@ class Arrays:
     wrap: bool = False
     highest: float = 1.0
 
-    def interferogram(self) -> Tuple[np.ndarray, np.ndarray]:
-        """Its numbers, and where they are there."""
+    def interferogram(self, limits: Limits) -> Plane:
+        """Its numbers, and where they are there. An array that tells its shape is refused by that alone."""
+        shape = getattr(self.igram, "shape", None)
+        if isinstance(shape, tuple) and len(shape) == 2:
+            limits.check(shape, "the interferogram")
         values, there = taken(self.igram, "the interferogram", PHASES, self.nodata)
         check_attributes(self.igram, "the interferogram", self.wrap)
         if values.ndim != 2 or not values.size:
             raise Trouble(f"an interferogram has two dimensions and numbers; this one has the shape {values.shape}")
-        check_size(values.shape[1], values.shape[0], "the interferogram")
+        limits.check(values.shape, "the interferogram")
         return values, there & has_phase(values)
 
     def like(self, given: Any, shape: Tuple[int, ...], name: str, nodata: Optional[float] = None) -> Plane:
@@ -363,9 +373,9 @@ class Arrays:
         check_coherence(quality, "coherence", self.highest, "coherence_max")
         return weights_of(quality, self.looks), there
 
-    def planes(self) -> Planes:
-        """Phases, weights and open pixels."""
-        values, opened = self.interferogram()
+    def planes(self, limits: Limits = WHOLE_LIMITS) -> Planes:
+        """Phases, weights and open pixels of an interferogram that is within the limits."""
+        values, opened = self.interferogram(limits)
         weights, there = self.weights(values.shape)
         opened &= there
         if self.mask is not None:
@@ -469,7 +479,8 @@ def unwrap(
     filter: Optional[str] = FILTER,
     narrow: bool = False,
 ) -> Unwrapped:
-    """Unwraps an interferogram, (rows, columns), and has the result checked.
+    """Unwraps an interferogram, (rows, columns), and has the result checked. It may have up to 65,535 pixels a side and 268,435,456 in
+    all, in tiles 4,096 and 4,194,304.
 
     Arrays may be masked ones or xarray's; what is masked or missing in one is masked.
 
@@ -516,7 +527,7 @@ def unwrap(
         raise Trouble("a coherence of the screen wants coherence", REFUSED_WORDS)
     with Outputs([]) as outputs:
         place = beside(outputs, kept)
-        planes = arrays.planes()
+        planes = arrays.planes(settings.limits)
         made = input_of(planes, making)
         solved = solve_by(chain, made, settings, is_checked, making.name)
         if place is not None:

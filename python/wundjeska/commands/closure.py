@@ -35,7 +35,7 @@ from ..loops import Loops, close_loop, commonest, raised
 from ..loops_page import Shown, page_of
 from ..outputs import Outputs, add_force_word, beside
 from ..part_loops import Moves, moves_of, raised_by
-from ..planes import CYCLE, check_size
+from ..planes import CYCLE, TILED_LIMITS
 from ..product import CYCLES, NOTHING_CERTIFIES
 from ..rasters import (
     NODATA,
@@ -49,6 +49,7 @@ from ..rasters import (
     name_of,
     open_raster,
     put_values,
+    shape_of,
     size_of,
     whole,
 )
@@ -57,6 +58,7 @@ from ..report_reader import NODATA as MASKED
 from ..trouble import REFUSED_WORDS, Trouble, warn
 from .surface import found_in, read_text
 
+LIMITS = replace(TILED_LIMITS, what="a surface of a loop", larger="`gdal_translate -srcwin` cuts larger ones into parts")
 FARTHEST = 10**6  # cycles beyond which a value is no surface
 NO_CYCLES = -(2**31)  # the NODATA of whole numbers
 ROLES = ("first", "second", "third")
@@ -172,7 +174,7 @@ def unit_of(source: Source, band: gdal.Band, asked: Optional[str]) -> str:
 def read_raster(source: Source, raster: gdal.Dataset, asked: Namespace) -> Surface:
     """The surface of a raster."""
     path = source.path
-    check_size(*size_of(raster), path)
+    LIMITS.check(shape_of(raster), path)
     number = band_of(raster, asked.band, "--band")
     unit = unit_of(source, raster.GetRasterBand(number), asked.unit)
     values, there = Band(raster, number, asked.nodata).read(whole(raster))
@@ -195,6 +197,7 @@ def read_surface(source: Source, asked: Namespace) -> Surface:
     if source.raster is not None:
         return read_raster(source, source.raster, asked)
     found = found_in(read_text(source.path), source.path, source.session)
+    LIMITS.check(found.values.shape, source.path)
     if source.session is not None and is_filtered(Path(source.session).read_bytes()):
         warn(f"{source.path}: {GUIDE}, so closures are not those of the phase; GeoTIFFs have the surface")
     return Surface(found.values, "cycles", str(found.notes["VERDICT"]))

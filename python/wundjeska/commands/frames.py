@@ -1,11 +1,12 @@
 """Unwraps a raster of whatever size: in frames that overlap, each unwrapped and checked, joined by whole cycles.
 
-A session has at most 4,194,304 pixels. A larger raster is cut into frames of at most --side pixels a side, which overlap by
-at least --overlap pixels. Each frame is unwrapped, after a filter if nothing else is said, and the checker has to accept its report or
-whole text, which is then its guide's. In an overlap both surfaces differ from the same phases by whole cycles, so they differ from
-each other by whole cycles; the median of the differences is what joins them. If open pixels fall into pieces that do not touch, each
-piece of each frame is joined for itself. The overlaps at which most pixels agree are taken first; the others are compared with what
-these say. Each frame fills the raster up to the middle of the overlaps.
+`unwrap` solves a raster at once, without joints, up to 65,535 pixels a side and 268,435,456 in all. One that has more, or wants more
+memory than is free, is cut into frames of at most --side pixels a side, which overlap by at least --overlap pixels. Each frame is
+unwrapped, after a filter if nothing else is said, and the checker has to accept its report or whole text, which is then its guide's. In
+an overlap both surfaces differ from the same phases by whole cycles, so they differ from each other by whole cycles; the median of the
+differences is what joins them. If open pixels fall into pieces that do not touch, each piece of each frame is joined for itself. The
+overlaps at which most pixels agree are taken first; the others are compared with what these say. Each frame fills the raster up to the
+middle of the overlaps.
 
 Each frame's surface, or its guide, is certified; with a model, for the phase less it. The joint is not: no certificate says that
 other whole cycles at the overlaps would not cost less. So each overlap is told, with how many pixels agree. An overlap agrees if the
@@ -18,9 +19,9 @@ What is there is not done again, so a run that was cut off goes on where it stop
 --undecided writes what is undecided in each frame, up to the middle of the overlaps; a part that runs over several has a number in each.
 --page writes a page of the raster, its maps reduced to 1,024 pixels a side.
 
-If overlaps do not agree, as where a fault cuts them, frames are done once more with a model: the raster is multilooked to blocks, few
-enough to be solved at once, and what that surface says of each pixel is taken off the phase, and added again at the end. If all overlaps
-agree then, that is what is written. --model N has a model of blocks of N by N pixels from the start, --model 0 none.
+If overlaps do not agree, as where a fault cuts them, frames are done once more with a model: the raster is multilooked to at most
+4,194,304 blocks, which are solved at once, and what that surface says of each pixel is taken off the phase, and added again at the end.
+If all overlaps agree then, that is what is written. --model N has a model of blocks of N by N pixels from the start, --model 0 none.
 """
 import hashlib
 import io
@@ -45,7 +46,7 @@ from ..joining import Link, Offsets, links_of, offsets_of
 from ..needs import needs_of, tell_needs
 from ..outputs import Outputs, add_force_word, beside, keep, raster_beside
 from ..pictures import pixel_axes
-from ..planes import CYCLE, MAX_PIXELS, Ramp, ramp_in, session_of
+from ..planes import CYCLE, Ramp, ramp_in, session_of
 from ..product import add_unit_words, check_unit_words, create_numbers, in_unit, kind_of, nodata_of, undecided_notes, unit_notes
 from ..progress import add_quiet_word, advance, say, shown
 from ..ramps import AUTO, RampWord, Spectrum, add_ramp_words, found_in, told
@@ -82,6 +83,7 @@ KEPT = ("session", "report", "pieces.npy", "values.npy")  # of a frame
 OF_GUIDES = ("undecided.npy", "f.npy")  # besides, of one with a filter: the numbers of undecided parts, and f of each
 NARROW_SUMS = b"# narrow\n"  # with the sums of a frame in which narrow features were looked for
 CHUNK = 1 << 20  # bytes of a file that are read at once
+MAX_SIDE = 2048  # pixels along a side of a frame
 MAX_LINES, MAX_COUNTS, MAX_JOBS = 20, 4, 64  # on pieces that do not agree, and of differences in such a line
 
 
@@ -520,7 +522,7 @@ def words() -> ArgumentParser:
         "--folder", metavar="FOLDER", type=Path, required=True, help="what is kept of frames; about 30 bytes a pixel"
     )
     found.add_argument(
-        "--side", type=int, default=2048, metavar="N", help="pixels along a side of a frame, at most 2048"
+        "--side", type=int, default=MAX_SIDE, metavar="N", help=f"pixels along a side of a frame, at most {MAX_SIDE}"
     )
     found.add_argument(
         "--overlap", type=int, default=128, metavar="N", help="pixels that frames overlap by (default: 128)"
@@ -555,8 +557,8 @@ def words() -> ArgumentParser:
 def check_words(asked: Namespace) -> None:
     """Trouble if arguments do not fit each other."""
     check_unit_words(asked)
-    if not 0 < asked.overlap < asked.side or asked.side**2 > MAX_PIXELS:
-        raise Trouble("wanted 0 < OVERLAP < SIDE <= 2048", REFUSED_WORDS)
+    if not 0 < asked.overlap < asked.side <= MAX_SIDE:
+        raise Trouble(f"wanted 0 < OVERLAP < SIDE <= {MAX_SIDE}", REFUSED_WORDS)
     if not 1 <= asked.jobs <= MAX_JOBS:
         raise Trouble(f"--jobs is from 1 to {MAX_JOBS}", REFUSED_WORDS)
     if asked.model is not None and asked.model < 0:

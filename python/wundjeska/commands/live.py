@@ -19,7 +19,7 @@ from ..displacements import read_grid
 from ..outputs import Outputs, is_same, keep
 from ..pages import COMMON, head_of, scaled
 from ..pictures import BRIGHTER, ROUND, Bar, coloured, map_of, pixel_axes, text, thinned, thinned_words
-from ..planes import CYCLE, Session, read_session
+from ..planes import CYCLE, TILED_LIMITS, Session, read_session
 from ..program import MAX_WORKERS, Problem, run_program, workers_or_default
 from ..report_reader import NODATA
 from ..trouble import BROKEN_INPUT, REFUSED_WORDS, Trouble
@@ -114,6 +114,7 @@ def page_of(name: str, seconds: float, when: str, body: str, why: str) -> str:
 def run_of(session: bytes, asked: Namespace) -> Tuple[Session, Watched, Optional[np.ndarray]]:
     """What a run of a session published, what its readers saw, and the last surface of another run."""
     planes = read_session(session)
+    TILED_LIMITS.check(planes.phase.shape, asked.session)
     words = Problem(asked.rule, asked.tile, planes.ramp or (0, 0)).words()
     words += ["--workers", str(workers_or_default(asked.workers))]
     wanted = ["--readers", str(asked.readers), "--reads", str(asked.reads)]

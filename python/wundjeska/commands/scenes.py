@@ -13,6 +13,7 @@ from typing import Dict, List, Tuple
 from ..cluster import MOST_PIXELS
 from ..networks import NO_LOOP, triplets_of
 from ..outputs import keep
+from ..planes import TILED_LIMITS
 from ..program import program
 from ..scene_words import IGRAM, PAIR, Wanted, is_odd, key_help, scenes_in, wanted
 from ..trouble import FILE_FAULT, REFUSED_WORDS, Trouble
@@ -85,6 +86,8 @@ def config_of(folder: Path, asked: Wanted, said: str) -> Dict[str, object]:
         raise Trouble(f"there is no mask {folder / asked.mask}", FILE_FAULT)
     odd = [name for name in names if is_odd(name)]
     pixels = {name: pixels_of(folder / asked.igram.replace(PAIR, name)) for name in scenes}
+    if asked.closure and max(pixels.values()) > TILED_LIMITS.pixels:
+        raise Trouble(f"closure=yes: a scene has {max(pixels.values())} pixels, and a loop has at most {TILED_LIMITS.pixels}")
     return {**asdict(asked), "scenes": scenes, "odd": odd, "triplets": triplets, "pixels": pixels, "said": said}
 
 

@@ -6,7 +6,11 @@ infinite, a complex number is 0, --mask is 0, or the coherence is below --least-
 first row of the planes, whichever way it points. Scales and offsets of bands are applied.
 
 --screen has the program's command `screen` mask what is noise. The session keeps the terms in a comment, and the mask is compared
-with one that is made here by the same rule. Edits of --script come after it, so `unmask` opens what it dropped.
+with one that is made here by the same rule; of a raster that is too large for tiles that one is taken. Edits of --script come after
+it, so `unmask` opens what it dropped.
+
+A session may have up to 65,535 pixels a side and 268,435,456 in all, which `whole` and `parts` take; with --script 4,096 and 4,194,304,
+since scripts are run in tiles.
 
 A session is of the phase as given if nothing else is said. --filter makes the one of the filtered phase, whose report
 `unwrap --report` keeps.
@@ -19,10 +23,10 @@ from argparse import ArgumentParser, Namespace, RawDescriptionHelpFormatter
 from pathlib import Path
 
 from ..outputs import Outputs, add_force_word, beside
-from ..planes import check_size
+from ..planes import TILED_LIMITS, WHOLE_LIMITS, Limits
 from ..program import ramp_words
 from ..ramps import add_ramp_words, told
-from ..rasters import Scene, add_scene_words, name_of, scene_of, size_of, whole
+from ..rasters import Scene, add_scene_words, name_of, scene_of, shape_of, whole
 from ..screening import Screened, add_screen_words, check_screen_words
 from ..trouble import Trouble
 from ..guiding import GUIDE, add_filter_words, filtered_session
@@ -51,27 +55,27 @@ def words() -> ArgumentParser:
     return found
 
 
-def read_scene(scene: Scene) -> Planes:
-    """Phases, weights and open pixels of a scene that fits into one session."""
+def read_scene(scene: Scene, limits: Limits) -> Planes:
+    """Phases, weights and open pixels of a scene that is within the limits."""
     raster = scene.phase.raster
-    check_size(*size_of(raster), name_of(raster))
+    limits.check(shape_of(raster), name_of(raster))
     planes = scene.read(whole(raster))
     if not planes[2].any():
         raise Trouble(f"{name_of(raster)} has no pixel that is open")
     return planes
 
 
-def input_for(scene: Scene, asked: Namespace, script: bytes = b"end\n") -> Input:
-    """The session that the words ask for, before a filter."""
+def input_for(scene: Scene, asked: Namespace, limits: Limits, script: bytes = b"end\n") -> Input:
+    """The session that the words ask for, before a filter, of a raster within the limits."""
     masked_by = "--least-coherence" if scene.least > 0 else None
     has_coherence = scene.coherence is not None
     making = Making(asked.phase, scene.looks, asked.ramp, asked.screen, script, masked_by, has_coherence)
-    return input_of(read_scene(scene), making)
+    return input_of(read_scene(scene, limits), making)
 
 
 def screen_line(screening: Screened) -> str:
     """What was dropped, and by which terms."""
-    return f"screened by {screening.terms.told()}, which dropped {screening.told()}"
+    return f"screened by {screening.by_terms()}, which dropped {screening.told()}"
 
 
 def main(asked: Namespace) -> int:
@@ -80,7 +84,7 @@ def main(asked: Namespace) -> int:
     with Outputs([*scene.files(), asked.script], asked.force) as outputs:
         made, unscreened = outputs.beside(asked.session), beside(outputs, asked.unscreened)
         script = Path(asked.script).read_bytes() if asked.script else b"end\n"
-        found = input_for(scene, asked, script)
+        found = input_for(scene, asked, TILED_LIMITS if asked.script else WHOLE_LIMITS, script)
         outputs.fill(made, filtered_session(found.session, found.has_coherence) if asked.filter else found.session)
         if unscreened:
             outputs.fill(unscreened, found.before)

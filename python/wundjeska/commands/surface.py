@@ -23,7 +23,7 @@ import sys
 from argparse import ArgumentParser, Namespace, RawDescriptionHelpFormatter
 from dataclasses import dataclass
 from pathlib import Path
-from typing import Any, Dict, Optional, Tuple
+from typing import Any, Dict, Optional
 
 import numpy as np
 
@@ -35,7 +35,7 @@ from ..outputs import Outputs, add_force_word
 from ..planes import read_session
 from ..product import NOTHING_CERTIFIES, add_unit_words, check_unit_words, write_product
 from ..program import check_report
-from ..rasters import files_of, name_of, open_raster, size_of
+from ..rasters import files_of, name_of, open_raster, shape_of
 from ..references import Reference, add_reference_words, reference_of
 from ..trouble import DISAGREES, REFUSED_WORDS, Trouble, warn
 from ..unwrapping import ACCEPTED, Solved, problem_of, read_report, signs_of_session, solved_again
@@ -154,11 +154,6 @@ def check_words(asked: Namespace) -> None:
         raise Trouble("--unfiltered wants --session, which was filtered", REFUSED_WORDS)
     if asked.narrow and not asked.unfiltered:
         raise Trouble("--narrow wants --unfiltered", REFUSED_WORDS)
-
-
-def shape_of(raster: Any) -> Tuple[int, int]:
-    width, height = size_of(raster)
-    return height, width
 
 
 def main(asked: Namespace) -> int:

@@ -1,6 +1,7 @@
 """Unwraps an interferogram in a file: makes the session, unwraps it, has the report checked, and writes a GeoTIFF.
 
-With --whole the whole raster is solved at once, so that no surface costs less; without it tiles are, and then how they join.
+With --whole, or nothing, the whole raster is solved at once, so that no surface costs less; with --tile or --no-whole tiles are, and
+then how they join. It may have up to 65,535 pixels a side and 268,435,456 in all, in tiles 4,096 and 4,194,304.
 
 The GeoTIFF has the pixels and the place of the phase, NODATA at masked pixels, and in its metadata the verdict, concerns, side,
 rule, costs, unit, wavelength, reference and sign. If the check refuses, no file is written.
@@ -32,7 +33,7 @@ from ..guiding import FOURIER, Chain, add_filter_words, add_narrow_word, add_unf
 from ..needs import needs_of, tell_needs
 from ..outputs import Outputs, add_force_word, beside, raster_beside
 from ..parts import LEAST, Bounds, Certified, Parts, add_margin_word, bounds_for, check_command, parts_or_none
-from ..planes import MAX_PIXELS, Ramp, read_session
+from ..planes import Ramp, read_session
 from ..product import (
     NOTHING_CERTIFIES,
     add_unit_words,
@@ -46,7 +47,7 @@ from ..program import show
 from ..progress import add_quiet_word, shown, stage
 from ..ramps import add_ramp_words
 from ..ramps import told as ramp_told
-from ..rasters import Scene, add_scene_words, axes_of, scene_of, size_of
+from ..rasters import Scene, add_scene_words, axes_of, scene_of, shape_of
 from ..references import Reference, add_reference_words, reference_of
 from ..screening import add_screen_words, check_screen_words
 from ..trouble import REFUSED_WORDS, Trouble, warn
@@ -204,7 +205,7 @@ def screen_note(made: Input) -> Dict[str, Any]:
     """What is told of a screen."""
     if made.screening is None:
         return {}
-    return {"SCREEN": made.screening.terms.told(), "DROPPED": made.screening.told()}
+    return {"SCREEN": made.screening.by_terms(), "DROPPED": made.screening.told()}
 
 
 def signs_note(signs: Signs) -> Dict[str, Any]:
@@ -260,15 +261,15 @@ def stages_of(asked: Namespace, settings: Settings, chain: Chain) -> int:
     return 2 + guided + (solved if asked.no_check else 2 * solved) + parts + (asked.page is not None)
 
 
-def tell_what_it_needs(asked: Namespace, scene: Scene, chain: Chain) -> None:
+def tell_what_it_needs(asked: Namespace, scene: Scene, settings: Settings, chain: Chain) -> None:
     """Says what the raster needs, unless it is refused for its size."""
-    width, height = size_of(scene.phase.raster)
-    if width * height > MAX_PIXELS:
+    shape = shape_of(scene.phase.raster)
+    if not settings.limits.hold(shape):
         return
-    is_filtered = chain.filter is not None
+    pixels, is_filtered = shape[0] * shape[1], chain.filter is not None
     remedy = "`wundjeska frames --side 1024 --jobs 1` takes less" + (", as does --no-filter" if is_filtered else "")
-    needs = needs_of(width * height, width * height, is_filtered, asked.page is not None)
-    tell_needs(asked.phase, width * height, needs, asked.quiet, remedy)
+    needs = needs_of(pixels, pixels, is_filtered, asked.page is not None, shape[1])
+    tell_needs(asked.phase, pixels, needs, asked.quiet, remedy)
 
 
 def main(asked: Namespace) -> int:
@@ -285,7 +286,7 @@ def main(asked: Namespace) -> int:
         places = places_for(asked, outputs)
         names = (asked.page, asked.session, asked.report, asked.unscreened, asked.unfiltered)
         page, *kept = (beside(outputs, name) for name in names)
-        tell_what_it_needs(asked, scene, chain)
+        tell_what_it_needs(asked, scene, settings, chain)
         with shown(stages_of(asked, settings, chain), asked.quiet):
             made, solved, parts = solved_scene(asked, scene, settings, chain, bounds)
             stage("writing")
@@ -312,7 +313,7 @@ def solved_scene(
 ) -> Tuple[Input, Solved, Optional[Parts]]:
     """What a scene is made into, its surface, and its certain parts."""
     stage("reading")
-    made = input_for(scene, asked)
+    made = input_for(scene, asked, settings.limits)
     solved = solve_by(chain, made, settings, not asked.no_check, asked.phase)
     return made, solved, certain_parts(asked, bounds, solved.certified(made.session, settings.problem(made.ramp)))
 

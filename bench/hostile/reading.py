@@ -310,6 +310,8 @@ def fits(text: bytes, low: int, high: int) -> bool:
 class LineReader:
     """Reads the lines of a text and raises Broken at the first that breaks its form."""
 
+    SIDE, PIXELS = 4096, 4_194_304  # the most of a raster in tiles
+
     def __init__(self, text):
         self.lines = text.split(b"\n")
         self.cut, self.place = self.lines.pop(), 0
@@ -356,9 +358,9 @@ class LineReader:
     def size(self):
         """The width and height in pixels."""
         sides = self.match(rb"size N N")
-        self.demand(all(fits(side, 1, 4096) for side in sides))
+        self.demand(all(fits(side, 1, self.SIDE) for side in sides))
         width, height = map(int, sides)
-        self.demand(width * height <= 4_194_304)
+        self.demand(width * height <= self.PIXELS)
         return width, height
 
     def terms(self):
@@ -447,6 +449,8 @@ class WholeText(NamedTuple):
 
 class WholeReader(LineReader):
     """Reads the lines of a whole text."""
+
+    SIDE, PIXELS = 65_535, 268_435_456
 
     def read(self):
         self.expect(b"insar-whole 1")

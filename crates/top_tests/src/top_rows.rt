@@ -388,5 +388,5 @@ fn rows_are_answered(rt: HostRuntime) {
     for row in ROWS.lines() {
         count = count.saturating_add(judge(&rt, row));
     }
-    assert!(rt; count == 245);
+    assert!(rt; count == 253);
 }

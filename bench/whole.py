@@ -387,7 +387,7 @@ ROWS = (
 # A change of the text of the pair, and the line on it: of a text that breaks its form the first broken line.
 BROKEN = (
     (b"size 3 2", b"size 2 3", "line 7"),
-    (b"size 3 2", b"size 4097 2", "line 2"),
+    (b"size 3 2", b"size 65536 2", "line 2"),
     (b"rule least", b"rule mean", "refused header 3"),
     (b"rule least", b"rule most", "line 3"),
     (b"ramp 0 0", b"ramp 0 1", "refused header 4"),

@@ -28,6 +28,10 @@ ring-SIZE, ringed-SEED-SIZE
     and the trial of SEED in those below. The weights of the ring are random, from 101 to 256, so that
     many seams depart by a cycle each.
 
+-sea, -lakes and -specks behind NAME, in this order, mask more pixels: those below a ragged shore, three tenths of them; some ten lakes
+that touch no border; one pixel in fifty, alone for the most part. Sides go to 65,535 pixels, and a raster to 268,435,456, as for the
+command `whole`; all others take 4096 and 4,194,304.
+
 With GX and GY, whole numbers, the phases rise by these units a pixel more to the right and downwards. By --ramp-x and --ramp-y of
 these slopes that is the same problem as the raster of NAME alone is without.
 
@@ -40,17 +44,18 @@ from typing import NamedTuple
 import numpy as np
 
 CYCLE = 65536  # units in a cycle
-MAX_SIDE, MAX_PIXELS = 4096, 4194304
+MAX_SIDE, MAX_PIXELS = 65535, 268435456
 SLOPES = {"slope": (300, 700), "gentle": (30, 20), "flat": (0, 0)}  # units a pixel to the right, and downwards
 NOISES = ("noise", "holes", "lake")
 FIELDS = ("hills", "mogi", "fractal", "fault", "fold", "rupture")
 TORN = ("fault", "fold", "rupture")
+WATERS = ("sea", "lakes", "specks")
 LEVELS = {"low": 0.005, "medium": 0.05, "high": 0.20}  # of the cells
 RISE, BUMP, RING_ROWS = 29491, 6554, 14  # 0.45 and 0.1 cycles; rows of the ring in a raster with a trial below
 MULTIPLIER, INCREMENT, WORD = 6364136223846793005, 1442695040888963407, 2**64
 NAME = re.compile(
-    r"(?P<kind>[a-z]+)(?:-(?P<seed>[0-9]{1,18}))?-(?P<width>[0-9]{1,4})(?:x(?P<height>[0-9]{1,4}))?"
-    r"(?:-(?P<level>low|medium|high)(?:-(?P<left>[1-9][0-9]?|100))?)?(?P<plain>-plain)?"
+    r"(?P<kind>[a-z]+)(?:-(?P<seed>[0-9]{1,18}))?-(?P<width>[0-9]{1,5})(?:x(?P<height>[0-9]{1,5}))?"
+    r"(?:-(?P<level>low|medium|high)(?:-(?P<left>[1-9][0-9]?|100))?)?(?P<plain>-plain)?(?P<waters>(?:-sea)?(?:-lakes)?(?:-specks)?)"
 )
 
 
@@ -213,9 +218,39 @@ def noisy(kind: str, seed: int, width: int, height: int, level: str, left: int |
     return Raster(surface(low), weights, 255, coherence > np.quantile(coherence, 0.06))
 
 
+def water(kind: str, width: int, height: int) -> np.ndarray:
+    """The pixels that a word of waters masks."""
+    random = np.random.Generator(np.random.PCG64([width, height, WATERS.index(kind)]))
+    if kind == "specks":
+        return random.random((height, width)) < 0.02
+    if kind == "sea":
+        heights = random_field(random, width, height, max(width, height) / 12) - 3 * np.arange(height)[:, None] / height
+        return heights < np.quantile(heights, 0.3)
+    heights = random_field(random, width, height, max(width, height) / 24)
+    heights[:2], heights[-2:], heights[:, :2], heights[:, -2:] = 9, 9, 9, 9
+    return heights < np.quantile(heights, 0.05)
+
+
+def masked(made: Raster, kinds: str) -> Raster:
+    """The raster with the pixels of these waters masked; its weights are 1 where it has none."""
+    shape = made.surface.shape
+    opened = np.ones(shape, bool) if made.opened is None else made.opened
+    for kind in kinds.split("-")[1:]:
+        opened = opened & ~water(kind, shape[1], shape[0])
+    return made._replace(weights=np.ones(shape, np.int64) if made.weights is None else made.weights, opened=opened)
+
+
 def raster(name: str) -> tuple[Raster, bool]:
     """The raster of a name, and whether its planes are plain."""
     words = NAME.fullmatch(name)
+    if not words or not words["waters"]:
+        return dry_raster(name, words)
+    made, is_plain = dry_raster(name, words)
+    return masked(made, words["waters"]), is_plain
+
+
+def dry_raster(name: str, words: re.Match[str] | None) -> tuple[Raster, bool]:
+    """The raster of the words of a name, without more waters."""
     if not words:
         raise Mistake(f"{name}: no name of a raster, as slope-1024, trial-7-512 and hills-1-512-low are")
     kind, seed, level = words["kind"], words["seed"], words["level"]

@@ -74,6 +74,20 @@ class Rasters(unittest.TestCase):
         self.assertFalse(made.opened[14:16].any())
         self.assertEqual(run("ringed-7-64x16").returncode, 2)
 
+    def test_waters_mask_what_they_say(self) -> None:
+        dry, _ = rasters.raster("hills-1-200-low")
+        for words, least, most in (("-sea", 0.29, 0.31), ("-lakes", 0.04, 0.06), ("-specks", 0.01, 0.03), ("-sea-lakes-specks", 0.3, 0.4)):
+            made, _ = rasters.raster(f"hills-1-200-low{words}")
+            self.assertTrue((made.surface == dry.surface).all())
+            gone = dry.opened & ~made.opened
+            self.assertTrue(least * 0.9 < np.count_nonzero(gone) / gone.size < most, words)
+        for edge in (rasters.water("lakes", 300, 200)[[0, 1, -2, -1]], rasters.water("lakes", 300, 200)[:, [0, 1, -2, -1]]):
+            self.assertFalse(edge.any())
+        self.assertGreater(np.count_nonzero(rasters.water("sea", 300, 200)[-1]), 150)
+        for name in ("hills-1-64-low-lakes-sea", "hills-1-64-low-pond", "flat-65536x2", "flat-65535x4097"):
+            self.assertEqual(run(name).returncode, 2, name)
+        self.assertEqual(run("flat-65535x2-specks").stdout[:16], b"P5\n65535 2\n65535")
+
     def test_noise_has_a_residue_in_each_third_cell(self) -> None:
         for kind, least, most in (("noise", 1, 1), ("holes", 0.49, 0.51), ("lake", 0.4, 0.8)):
             made, _ = rasters.raster(f"{kind}-5-300x200")
@@ -99,7 +113,7 @@ class Rasters(unittest.TestCase):
             self.assertEqual((made.surface.shape, made.weights.min() >= 1, made.weights.max() <= 255), ((48, 64), True, True))
 
     def test_mistakes_end_in_one_line(self) -> None:
-        for name in ("slope", "slope-0", "slope-9-3", "trial-64", "hills-1-64", "hills-1-1-low", "flat-4096", "fields-3", "-"):
+        for name in ("slope", "slope-0", "slope-9-3", "trial-64", "hills-1-64", "hills-1-1-low", "flat-16385", "fields-3", "-"):
             done = run(name)
             self.assertEqual((done.returncode, done.stdout, done.stderr.count(b"\n")), (2, b"", 1), name)
         self.assertEqual((run().returncode, run("--help").returncode), (2, 0))

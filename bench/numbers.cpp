@@ -16,10 +16,12 @@ static std::vector<std::int64_t> read_numbers() {
     // A number that the block cuts is read with the next one.
     while (last > next && last[-1] > ' ') --last;
     while (next < last) {
-      std::int64_t number;
-      auto found = std::from_chars(next, last, number);
-      if (found.ec == std::errc()) numbers.push_back(number);
-      next = found.ec == std::errc() ? found.ptr : next + 1;
+      bool below = *next == '-';
+      const char *first = next + below;
+      std::int64_t number = 0;
+      for (next = first; *next >= '0' && *next <= '9'; ++next) number = 10 * number + (*next - '0');
+      if (next > first) numbers.push_back(below ? -number : number);
+      else if (!below) ++next;
     }
     kept = std::size_t(end - last);
     std::copy(last, end, block.begin());

@@ -9,6 +9,7 @@ pub mod EdgeCosts
 mod FreeRows
 mod FitRows
 mod RangeLemmas
+mod RowLemmas
 pub mod VerdictLemmas
 mod WholeLemmas
 pub mod Unique

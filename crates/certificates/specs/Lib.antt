@@ -7,6 +7,7 @@ pub mod Verdicts
 pub mod EdgeWords
 pub mod Cuts
 pub mod TileWords
+pub mod RowWords
 pub mod SeamVerdicts
 pub mod Growth
 pub mod FlowWords

@@ -3,12 +3,14 @@
 #![tactic(auto)]
 
 mod anchor;
+mod beside;
 mod cut;
 mod cycles;
 mod edge_costs;
 pub mod laws;
 mod numbers;
 mod results;
+mod row_sums;
 mod seam_costs;
 mod seam_edges;
 mod seam_flows;
@@ -22,6 +24,7 @@ mod tiles;
 mod values;
 mod verdicts;
 
+pub use crate::beside::check_whole_side_by_side;
 pub use crate::edge_costs::edge_cost;
 pub use crate::results::{SeamResult, TileResult};
 pub use crate::seam_edges::{is_seam_edge, next_start, seam_count};

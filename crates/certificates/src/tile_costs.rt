@@ -166,7 +166,7 @@ impl Tile<'_> {
     }
 
     /// What the edges that start in row `y` add to the tile's cost.
-    fn row_cost<H: Heights>(&self, heights: &H, y: u32) -> u128
+    pub(crate) fn row_cost<H: Heights>(&self, heights: &H, y: u32) -> u128
         requires row { (self.now.window.y0 ≤ y) × (y ≤ self.now.window.y1) }
         requires known { KnowsTile self.now (H.knows heights.now) }
         ensures value { pos result ≡ sum_row self.now.sheet.phase.now.width (cost_at self.now (H.cycles_at heights.now)) y }

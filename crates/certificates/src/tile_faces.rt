@@ -153,7 +153,13 @@ impl Tile<'_> {
 
     /// The first edge that starts at a pixel and is an inner edge whose faces do not fit. `unmasked` is as in
     /// `is_unfit`.
-    fn first_unfit_from(&self, faces: &[i64], x: u32, y: u32, unmasked: bool) -> Option<Edge>
+    pub(crate) fn first_unfit_from(
+        &self,
+        faces: &[i64],
+        x: u32,
+        y: u32,
+        unmasked: bool,
+    ) -> Option<Edge>
         requires count { HasFaces self.now faces.now }
         requires within { IsWithin self.now.window x y }
         requires unmasked { IsTrue unmasked → AreRowsOpen self.now y }
@@ -242,7 +248,7 @@ impl Tile<'_> {
     /// Whether the faces are known to fit at each inner edge that starts in row `y`: the tile has cells above and below
     /// the row, and no edge was found at which they do not fit. If `unmasked` is true, the pixels of this row and of the
     /// next are known to be open.
-    fn fit_in_row(&self, faces: &[i64], y: u32, unmasked: bool) -> bool
+    pub(crate) fn fit_in_row(&self, faces: &[i64], y: u32, unmasked: bool) -> bool
         requires count { HasFaces self.now faces.now }
         requires row { (self.now.window.y0 ≤ y) × (y ≤ self.now.window.y1) }
         requires unmasked { IsTrue unmasked → AreRowsOpen self.now y }
@@ -296,7 +302,7 @@ impl Tile<'_> {
     }
 
     /// A cell's face times its residue.
-    fn face_product(&self, faces: &[i64], x: u32, y: u32) -> i128
+    pub(crate) fn face_product(&self, faces: &[i64], x: u32, y: u32) -> i128
         requires count { HasFaces self.now faces.now }
         requires cell { IsCellAt self.now.window x y }
         ensures value { result ≡ product_at self.now faces.now x y }
@@ -342,7 +348,7 @@ impl Tile<'_> {
     fn over_from(&self, faces: &[i64], x: u32, y: u32) -> u64
         requires count { HasFaces self.now faces.now }
         requires within { IsWithin self.now.window x y }
-        requires fit { AllFit self.now faces.now }
+        requires fit { FitIn self.now faces.now y }
         ensures value { pos result ≡ over_at self.now faces.now x y }
         ensures small { result ≤ 2 * MAX_CYCLE_COST }
     {
@@ -360,10 +366,10 @@ impl Tile<'_> {
     }
 
     /// By how much faces differ by more than the weights at the inner edges that start in row `y`.
-    fn row_over(&self, faces: &[i64], y: u32) -> u64
+    pub(crate) fn row_over(&self, faces: &[i64], y: u32) -> u64
         requires count { HasFaces self.now faces.now }
         requires row { (self.now.window.y0 ≤ y) × (y ≤ self.now.window.y1) }
-        requires fit { AllFit self.now faces.now }
+        requires fit { FitIn self.now faces.now y }
         ensures value { pos result ≡ sum_row self.now.sheet.phase.now.width (over_at self.now faces.now) y }
         ensures small { result ≤ 2 * MAX_CYCLE_COST * MAX_SIDE }
     {

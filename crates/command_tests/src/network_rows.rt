@@ -17,7 +17,9 @@ fn cost_from<R: Abort + Threads + Sync>(
     let guess = guess_whole_within(rt, alloc, &scene.sheet(), mask, 2, patience).expect(
         rt, "memory",
     );
-    let solved = solve_whole_from(alloc, &scene.sheet(), mask, Some(guess)).expect(rt, "memory");
+    let solved = solve_whole_from(rt, alloc, &scene.sheet(), mask, 2, Some(guess)).expect(
+        rt, "memory",
+    );
     solved.cost
 }
 

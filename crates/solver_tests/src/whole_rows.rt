@@ -2,6 +2,7 @@ use crate::outcomes::same;
 use raster_model::{Scene, Terms, Tiling};
 use std::alloc::Global;
 use std::process::Abort;
+use std::thread::Threads;
 use whole_guess::{Guess, Reached};
 use whole_solver::{WholeResult, solve_whole, solve_whole_from};
 use worked_scenes::{cycles, field, masked, numbers, scene_on};
@@ -22,9 +23,14 @@ fn turn(rt: &impl Abort, alloc: Global) -> Scene {
 }
 
 /// The surface of a raster whose pixels are all open, solved from a guess, if one is given, or else by the network.
-fn solved(rt: &impl Abort, alloc: Global, scene: &Scene, guess: Option<Guess>) -> WholeResult {
+fn solved<R: Abort + Threads + Sync>(
+    rt: &R,
+    alloc: Global,
+    scene: &Scene,
+    guess: Option<Guess>,
+) -> WholeResult {
     let mask = masked(alloc, &scene.tiling, &[1; 8]).expect(rt, "a mask");
-    solve_whole_from(alloc, &scene.sheet(), &mask, guess).expect(rt, "memory")
+    solve_whole_from(rt, alloc, &scene.sheet(), &mask, 2, guess).expect(rt, "memory")
 }
 
 /// The cycles of a surface and its cost, in words.

@@ -7,14 +7,18 @@ ghost use Rattle.whole_solver.specs.Cycles.{AreSmallCycles, whole_cycles};
 ghost use Rattle.whole_solver.specs.Results.{AreRight, IsGoodWhole};
 
 use crate::result::WholeResult;
-use certificates::check_whole;
+use certificates::check_whole_side_by_side;
 use raster_model::{Heights, MAX_WHOLE_CYCLES, Mask, Sheet};
+use std::thread::Threads;
 
 /// The result with these cycles and faces, if they are right: a number of cycles for each pixel, none of them too great and
-/// 0 at the first open pixel, and faces that certify their surface.
-pub(crate) fn certified(
+/// 0 at the first open pixel, and faces that certify their surface. At most `workers` threads judge that at once, but at least
+/// one does.
+pub(crate) fn certified<R: Threads + Sync>(
+    rt: &R,
     sheet: &Sheet,
     mask: &Mask,
+    workers: u32,
     cycles: Vec<i64>,
     faces: Vec<i64>,
 ) -> Option<WholeResult>
@@ -35,11 +39,17 @@ pub(crate) fn certified(
         cycles,
         faces,
     };
-    judged(sheet, mask, solved)
+    judged(rt, sheet, mask, workers, solved)
 }
 
 /// A result with its cost, if it is anchored and its faces certify it.
-fn judged(sheet: &Sheet, mask: &Mask, solved: WholeResult) -> Option<WholeResult>
+fn judged<R: Threads + Sync>(
+    rt: &R,
+    sheet: &Sheet,
+    mask: &Mask,
+    workers: u32,
+    solved: WholeResult,
+) -> Option<WholeResult>
     requires same_size { (mask.now.width ≡ sheet.now.phase.now.width) × (mask.now.height ≡ sheet.now.phase.now.height) }
     requires width { solved.width ≡ sheet.now.phase.now.width }
     requires count { length solved.cycles.items ≡ sheet.now.phase.now.width * sheet.now.phase.now.height }
@@ -49,7 +59,7 @@ fn judged(sheet: &Sheet, mask: &Mask, solved: WholeResult) -> Option<WholeResult
     if !is_anchored(sheet, mask, &solved) {
         return None;
     }
-    let Ok(cost) = check_whole(sheet, mask, &solved, &solved.faces) else {
+    let Ok(cost) = check_whole_side_by_side(rt, workers, sheet, mask, &solved, &solved.faces) else {
         return None;
     };
     let WholeResult {

@@ -26,36 +26,50 @@ pub fn solve_whole<R: Threads + Sync>(
     ensures good { IfOk result (IsGoodWhole (sheet_raster sheet.now) (open_at mask.now)) }
 {
     let guess = guess_whole(rt, alloc, sheet, mask, workers)?;
-    solve_whole_from(alloc, sheet, mask, Some(guess))
+    solve_whole_from(rt, alloc, sheet, mask, workers, Some(guess))
 }
 
 /// Solves the whole raster as `solve_whole` does, from a guess. A surface that is certified is taken. Otherwise the network of
 /// the whole raster is solved, from what the guess has reached where flows and faces go together, and else from nothing. So
-/// a guess can cost time and nothing else. (McConnell, Mehlhorn, Naeher and Schweitzer 2011.)
-pub fn solve_whole_from(
+/// a guess can cost time and nothing else. At most `workers` threads judge a surface at once, but at least one does. (McConnell,
+/// Mehlhorn, Naeher and Schweitzer 2011.)
+pub fn solve_whole_from<R: Threads + Sync>(
+    rt: &R,
     alloc: Global,
     sheet: &Sheet,
     mask: &Mask,
+    workers: u32,
     guess: Option<Guess>,
 ) -> Result<WholeResult, AllocError>
     requires same_size { (mask.now.width ≡ sheet.now.phase.now.width) × (mask.now.height ≡ sheet.now.phase.now.height) }
     ensures good { IfOk result (IsGoodWhole (sheet_raster sheet.now) (open_at mask.now)) }
 {
     match guess {
-        None => solved_by_network(alloc, sheet, mask, None),
-        Some(Guess::Reached(reached)) => solved_by_network(alloc, sheet, mask, Some(reached)),
-        Some(Guess::Surface { cycles, faces }) => match certified(sheet, mask, cycles, faces) {
+        None => solved_by_network(rt, alloc, sheet, mask, workers, None),
+        Some(Guess::Reached(reached)) => solved_by_network(
+            rt,
+            alloc,
+            sheet,
+            mask,
+            workers,
+            Some(reached),
+        ),
+        Some(Guess::Surface { cycles, faces }) => match certified(
+            rt, sheet, mask, workers, cycles, faces,
+        ) {
             Some(solved) => Ok(solved),
-            None => solved_by_network(alloc, sheet, mask, None),
+            None => solved_by_network(rt, alloc, sheet, mask, workers, None),
         },
     }
 }
 
 /// Solves the whole raster by its network, from what was reached, if anything was.
-fn solved_by_network(
+fn solved_by_network<R: Threads + Sync>(
+    rt: &R,
     alloc: Global,
     sheet: &Sheet,
     mask: &Mask,
+    workers: u32,
     reached: Option<Reached>,
 ) -> Result<WholeResult, AllocError>
     requires same_size { (mask.now.width ≡ sheet.now.phase.now.width) × (mask.now.height ≡ sheet.now.phase.now.height) }
@@ -63,7 +77,7 @@ fn solved_by_network(
 {
     let WholeSurface { cycles, faces } = solve_by_network(alloc, sheet, mask, reached)?;
     let cycles = anchored(sheet, mask, cycles);
-    match certified(sheet, mask, cycles, faces) {
+    match certified(rt, sheet, mask, workers, cycles, faces) {
         Some(solved) => Ok(solved),
         None => unreachable!(),
     }

@@ -4,13 +4,13 @@ use Rattle.whole_solver.proofs.RightLemmas.{all_within, moved_certified}
 use Rattle.whole_solver.proofs.solving.solved_by_network.Goals as goal
 
 pub anchored-cycles-requires-clause-within : goal.anchored-cycles-requires-clause-within
-anchored-cycles-requires-clause-within c =
+anchored-cycles-requires-clause-within g c =
     let k = c.in_ok-cycles.field-0 in
     let told = c.in_ok-cycles.ensures {u = tt} in
     all_within c.args.sheet.now k.cycles.items (sym k.cycles.ok.0 ∙ told.count) told.within
 
 pub unreachable-requires : goal.unreachable-requires
-unreachable-requires c =
+unreachable-requires g c =
     let k = c.in_ok-cycles.field-0 in
     let told = c.in_ok-cycles.ensures {u = tt} in
     let made = c.anchored-cycles.ensures in

@@ -10,7 +10,7 @@ use insar_ports::{Feed, Source};
 use std::alloc::AllocError;
 
 /// How many samples are taken at once at most.
-const PIECE_SAMPLES: usize = 2048;
+pub const PIECE_SAMPLES: usize = 2048;
 
 /// Takes samples that wait in the feed whole, at most `most` and none from the first above `maxval`
 /// on, and appends them. Samples of digits are left to be taken one by one.

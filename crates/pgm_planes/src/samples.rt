@@ -6,11 +6,14 @@ ghost use Rattle.pgm_planes.specs.Reading.{Reads, nothing, as_refusal, form_of a
 
 use crate::fault::{PlaneFault, ReadPlaneFault};
 use crate::header::{is_space, read_number, read_octet, see_byte, skip_blanks};
-use crate::pieces::take_waiting;
+use crate::pieces::{PIECE_SAMPLES, take_waiting};
 use crate::spelling::Spelling;
 use byteorder::{BigEndian, ByteOrder};
 use insar_ports::{Feed, Source};
-use std::alloc::Global;
+use std::alloc::{AllocError, Global};
+
+/// For how many samples there is room at first, if so many are to come.
+const FIRST_ROOM: usize = 65_536;
 
 /// How one sample is spelled.
 #[derive(Clone, Copy)]
@@ -107,8 +110,20 @@ fn read_sample<S: Source>(
     }
 }
 
+/// Makes room for a sample and those that wait after it, and for as many as there are, but for no more than `most`, which
+/// are still to come.
+fn make_room(samples: &mut Vec<u16>, most: usize) -> Result<(), AllocError>
+    ensures items { samples.new.items ≡ samples.old.items }
+    ensures len { vec_len samples.new ≡ vec_len samples.old }
+{
+    if samples.capacity() - samples.len() > PIECE_SAMPLES {
+        return Ok(());
+    }
+    samples.reserve_exact(samples.len().max(FIRST_ROOM).min(most))
+}
+
 /// Takes the given number of samples: one by itself, then those that wait, and so on. A sample that is
-/// cut or above `maxval` is always met by itself.
+/// cut or above `maxval` is always met by itself. Room grows with the samples.
 fn read_samples<S: Source>(
     alloc: Global,
     feed: &mut Feed<S>,
@@ -122,9 +137,10 @@ fn read_samples<S: Source>(
     ensures below { IfOk result (λ samples. (k : ℕ) → slice_index samples.items k ≤ maxval) }
     ensures reads { Reads (λ v. v.items) result (call_of S.left S.faults feed.old feed.new) (samples_at form maxval count 0) }
 {
-    let mut samples = Vec::with_capacity(alloc, count as usize)?;
+    let mut samples = Vec::new(alloc);
     let mut index = 0;
     while index < count {
+        make_room(&mut samples, (count - index) as usize)?;
         let sample = read_sample(feed, form, maxval, index)?;
         samples.push(sample)?;
         let others = (count - index - 1) as usize;

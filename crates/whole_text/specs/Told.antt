@@ -1,17 +1,14 @@
 -- What the whole is unwrapped of, and what the text of a surface that lies whole cycles above the phase tells.
 use Rattle.raster_model.specs.declared.limits.TheConstants.{MAX_WHOLE_CYCLES}
 use Rattle.std.specs.Prelude.{◌*◌, ℕ, ◌<◌, ℤ, Bool, IsTrue, if◌then◌else◌, List, unsigned_abs}
-use Rattle.raster_model.specs.declared.session.Session.{Session}
 use Rattle.raster_model.specs.declared.sheet.Sheet.{Sheet}
 use Rattle.raster_model.specs.declared.weights.RuleKind.{RuleKind}
 use Rattle.raster_model.specs.Limits.{IsSteepness}
 use Rattle.raster_model.specs.Masks.{open_at}
 use Rattle.raster_model.specs.MaskView.{MaskView}
 use Rattle.raster_model.specs.Raster.{Raster, lifted}
-use Rattle.raster_model.specs.Scene.{raster_of}
 use Rattle.raster_model.specs.Sheets.{sheet_raster}
 use Rattle.raster_model.specs.Sums.{Field}
-use Rattle.raster_model.specs.Whole.{whole_of}
 use Rattle.grid_writer.specs.Fits.{HasPhases}
 use Rattle.grid_writer.specs.Values.{no_data}
 use Rattle.text_parts.specs.Terms.{TermsOf, terms_of}
@@ -24,12 +21,9 @@ pub record WholeTask : Type 0 where
   pub terms : TermsOf
   pub mask : Field Bool
 
--- that of a sheet and a mask; that of a session's scene and its first mask
+-- that of a sheet and a mask
 abbrev pub task_of : Sheet → MaskView → WholeTask
 task_of sheet mask = record { raster = sheet_raster sheet; rule = sheet.rule; terms = terms_of sheet.terms; mask = open_at mask }
-
-abbrev pub task_in : Session → WholeTask
-task_in session = record { raster = whole_of (raster_of session.scene); rule = session.scene.rule; terms = terms_of session.scene.terms; mask = open_at session.first_mask }
 
 -- what holds of each of these: phases are less than a cycle, and the steepness is within its limits
 pub record IsWholeTask (task : WholeTask) : Type 0 where

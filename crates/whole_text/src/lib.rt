@@ -1,6 +1,7 @@
 //! The text of a surface over the whole raster, with its cost and the faces that certify it: written, and read again.
 #![tactic(auto)]
 
+mod face_rows;
 pub mod laws;
 mod parse;
 mod read;

@@ -9,22 +9,27 @@ ghost use Rattle.text_lines.specs.Numbers.{AreLongs};
 ghost use Rattle.text_lines.specs.Views.{view_of};
 ghost use Rattle.text_parts.specs.Terms.{terms_of};
 ghost use Rattle.text_parts.specs.Text.{ended_line};
-ghost use Rattle.whole_text.specs.Text.{IsWhole, cell_rows, cost_line, face_row, face_rows, rows_text, whole_head, whole_text};
+ghost use Rattle.whole_text.specs.Text.{IsWhole, cost_line, face_rows, whole_head, whole_text};
 ghost use Rattle.whole_text.specs.Told.{AreFewCycles, task_of, told_whole};
 
+use crate::face_rows::FaceRows;
 use crate::rows::SurfaceRows;
 use crate::whole::cell_rows_of;
 use grid_writer::add_header;
 use insar_ports::{Sink, WriteFault};
 use raster_model::{Heights, Mask, Sheet};
-use text_lines::{TextWriter, add_numbers, add_wide_field, see_longs};
-use text_pages::add_all;
+use std::thread::Threads;
+use text_lines::{TextWriter, add_wide_field, see_longs};
+use text_pages::{Pages, add_side_by_side};
 use text_parts::{add_ramp, add_rule, add_size, add_steepness};
 
 /// Writes the text of a surface over the whole raster: the size, the rule, the terms, the cost, the values in units of
 /// 1/65536 cycle, and the faces, one for each cell of the raster in row order. A masked pixel has the NODATA value, an open
-/// one lies whole cycles above the phase. It takes no memory. After a fault the sink has a part of the text.
-pub fn write_whole<K: Sink, H: Heights>(
+/// one lies whole cycles above the phase. Several threads make the lines of rows and of faces, if there are pages for them. It
+/// takes no memory. After a fault the sink has a part of the text.
+pub fn write_whole<R: Threads + Sync, K: Sink, H: Heights + Sync>(
+    rt: &R,
+    pages: &mut Pages,
     sheet: &Sheet<'_>,
     mask: &Mask,
     heights: &H,
@@ -49,8 +54,8 @@ pub fn write_whole<K: Sink, H: Heights>(
     let (width, height) = (sheet.phase.width, sheet.phase.height);
     add_head(&mut text, sheet, cost);
     add_header(&mut text, width, height);
-    add_all(&mut text, &surface);
-    add_faces(&mut text, width, height, faces);
+    add_side_by_side(rt, pages, &mut text, &surface);
+    add_faces(rt, pages, &mut text, width, height, faces);
     text.bytes(b"end\n");
     text.finish()
 }
@@ -76,32 +81,24 @@ fn add_cost<K: Sink>(text: &mut TextWriter<K>, cost: u128)
 }
 
 /// Adds the lines of the faces of a raster of this size.
-fn add_faces<K: Sink>(text: &mut TextWriter<K>, width: u32, height: u32, faces: &[i64])
+fn add_faces<R: Threads + Sync, K: Sink>(
+    rt: &R,
+    pages: &mut Pages,
+    text: &mut TextWriter<K>,
+    width: u32,
+    height: u32,
+    faces: &[i64],
+)
     requires size { (1 ≤ width) × (1 ≤ height) }
     requires one_each { length faces.now ≡ (width - 1) * (height - 1) }
     ensures added { Adds (view_of K.held K.faults text.old) (view_of K.held K.faults text.new) (face_rows width height faces.now) }
     ensures longs { AreLongs faces.now }
 {
     see_longs(faces);
-    let rows = cell_rows_of(width, height);
-    add_rows(text, width as usize - 1, rows, faces);
-}
-
-/// Adds a line of faces for each of so many rows of cells.
-fn add_rows<K: Sink>(text: &mut TextWriter<K>, across: usize, rows: u32, faces: &[i64])
-    requires enough { rows * across ≤ length faces.now }
-    ensures { Adds (view_of K.held K.faults text.old) (view_of K.held K.faults text.new) (rows_text rows across faces.now) }
-{
-    for row in 0..rows {
-        let start = row as usize * across;
-        add_row(text, &faces[start..start + across]);
-    }
-}
-
-fn add_row<K: Sink>(text: &mut TextWriter<K>, faces: &[i64])
-    ensures { Adds (view_of K.held K.faults text.old) (view_of K.held K.faults text.new) (ended_line face_row faces.now) }
-{
-    text.bytes(b"faces");
-    add_numbers(text, faces);
-    text.end_line();
+    let lines = FaceRows {
+        faces,
+        across: width as usize - 1,
+        rows: cell_rows_of(width, height),
+    };
+    add_side_by_side(rt, pages, text, &lines);
 }

@@ -17,7 +17,7 @@ returns-clause-put g c =
     let sheet = c.args.sheet.now in
     let values = value_above (sheet_raster sheet) (open_at c.args.mask.now) (g.H.Heights.cycles_at c.args.heights.now) in
     let grid : GridOf = record { width = sheet.phase.now.width; height = sheet.phase.now.height; values = values } in
-    puts_made g.K.Sink.held g.K.Sink.faults c.finish.result (λ n. search (rules, n)) c.new-text.ensures (adds_then c.add_head.ensures (adds_then (adds_rows grid c.add_header.ensures c.add_all.ensures.added) (adds_then c.add_faces.ensures.added c.bytes.ensures))) c.finish.ensures.adds c.finish.ensures.none c.finish.ensures.whole c.finish.ensures.cut
+    puts_made g.K.Sink.held g.K.Sink.faults c.finish.result (λ n. search (rules, n)) c.new-text.ensures (adds_then c.add_head.ensures (adds_then (adds_rows grid c.add_header.ensures c.add_side_by_side.ensures.added) (adds_then c.add_faces.ensures.added c.bytes.ensures))) c.finish.ensures.adds c.finish.ensures.none c.finish.ensures.whole c.finish.ensures.cut
 
 pub returns-clause-ranges : goal.returns-clause-ranges
 returns-clause-ranges g c =

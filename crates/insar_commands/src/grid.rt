@@ -36,7 +36,7 @@ pub fn run_grid<R: Threads + Wait + Sync, S: Source, K: Sink, G: Gate>(
 {
     let session = read_given(rt, alloc, source, settings)?;
     let board = finished(rt, alloc, session, settings.workers, gate)?;
-    let mut pages = pages_for(rt, alloc, board.session(), settings.workers)?;
+    let mut pages = pages_for(rt, alloc, &board.session().scene.phase, settings.workers)?;
     end_of(write_last_grid(rt, &mut pages, &board, sink), 0)
 }
 

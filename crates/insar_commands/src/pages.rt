@@ -1,7 +1,7 @@
 ghost use Rattle.std.specs.Prelude.{◌*◌, ◌≤◌, ℕ, IfOk};
 ghost use Rattle.text_pages.specs.Rooms.{ArePages};
 
-use raster_model::Session;
+use raster_model::Plane;
 use side_by_side::processors;
 use std::alloc::{AllocError, Global};
 use std::thread::Threads;
@@ -10,17 +10,16 @@ use text_pages::Pages;
 /// About how many bytes a grid has for each pixel.
 const BYTES_OF_PIXEL: u32 = 8;
 
-/// Pages for the surfaces of a session, two for each worker, though not for more workers than there are processors; none for
-/// one alone.
+/// Pages for the surfaces over a phase plane, two for each worker, though not for more workers than there are processors; none
+/// for one alone.
 pub fn pages_for<R: Threads>(
     rt: &R,
     alloc: Global,
-    session: &Session,
+    phase: &Plane,
     workers: u32,
 ) -> Result<Pages, AllocError>
-    ensures { IfOk result (λ pages. (threads : ℕ) × (threads ≤ workers) × ArePages threads (session.now.scene.phase.width * session.now.scene.phase.height * BYTES_OF_PIXEL) pages) }
+    ensures { IfOk result (λ pages. (threads : ℕ) × (threads ≤ workers) × ArePages threads (phase.now.width * phase.now.height * BYTES_OF_PIXEL) pages) }
 {
-    let phase = &session.scene.phase;
     let pixels = phase.width.saturating_mul(phase.height);
     let threads = workers.min(processors(rt));
     Pages::new(alloc, threads, pixels.saturating_mul(BYTES_OF_PIXEL))

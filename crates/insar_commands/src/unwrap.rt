@@ -30,6 +30,6 @@ pub fn run_unwrap<R: Threads + Wait + Sync, S: Source, K: Sink, G: Gate>(
 {
     let session = read_given(rt, alloc, source, settings)?;
     let board = finished(rt, alloc, session, settings.workers, gate)?;
-    let pages = pages_for(rt, alloc, board.session(), settings.workers)?;
+    let pages = pages_for(rt, alloc, &board.session().scene.phase, settings.workers)?;
     end_of(write_report_side_by_side(rt, pages, &board, sink), 0)
 }

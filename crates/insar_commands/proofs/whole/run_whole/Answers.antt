@@ -33,7 +33,7 @@ pub write_whole-put-requires-clause-same_size : goal.write_whole-put-requires-cl
 write_whole-put-requires-clause-same_size g c =
     let session = c.in_ok-session.session in
     let m = session.first_mask in
-    subst (λ (r : Raster). (m.width ≡ r.width) × (m.height ≡ r.height)) (sym (laid_raster session.scene c.sheet-sheet.result c.sheet-sheet.ensures)) session.same_size
+    λ κs l. subst (λ (r : Raster). (m.width ≡ r.width) × (m.height ≡ r.height)) (sym (laid_raster session.scene c.sheet-sheet.result c.sheet-sheet.ensures)) session.same_size
 
 pub write_whole-put-requires-clause-known : goal.write_whole-put-requires-clause-known
 write_whole-put-requires-clause-known g c =
@@ -42,7 +42,7 @@ write_whole-put-requires-clause-known g c =
     let mask = open_at session.first_mask in
     let laid = laid_raster session.scene c.sheet-sheet.result c.sheet-sheet.ensures in
     let good = subst (λ (r : Raster). IsGoodWhole r mask solved) laid c.in_ok-solved.ensures.good in
-    subst (λ (r : Raster). KnowsOpen r mask (has_cycles solved.width solved.cycles.items)) (sym laid) (knows_all session.scene mask solved good)
+    λ κs l. subst (λ (r : Raster). KnowsOpen r mask (has_cycles solved.width solved.cycles.items)) (sym laid) (knows_all session.scene mask solved good)
 
 pub write_whole-put-requires-clause-few : goal.write_whole-put-requires-clause-few
 write_whole-put-requires-clause-few g c =
@@ -51,7 +51,7 @@ write_whole-put-requires-clause-few g c =
     let mask = open_at session.first_mask in
     let laid = laid_raster session.scene c.sheet-sheet.result c.sheet-sheet.ensures in
     let good = subst (λ (r : Raster). IsGoodWhole r mask solved) laid c.in_ok-solved.ensures.good in
-    subst (λ (r : Raster). AreFewCycles r mask (whole_cycles solved.width solved.cycles.items)) (sym laid) (few session.scene mask solved good)
+    λ κs l. subst (λ (r : Raster). AreFewCycles r mask (whole_cycles solved.width solved.cycles.items)) (sym laid) (few session.scene mask solved good)
 
 pub write_whole-put-requires-clause-one_each : goal.write_whole-put-requires-clause-one_each
 write_whole-put-requires-clause-one_each g c =
@@ -60,7 +60,7 @@ write_whole-put-requires-clause-one_each g c =
     let mask = open_at session.first_mask in
     let laid = laid_raster session.scene c.sheet-sheet.result c.sheet-sheet.ensures in
     let good = subst (λ (r : Raster). IsGoodWhole r mask solved) laid c.in_ok-solved.ensures.good in
-    subst (λ (r : Raster). length c.deref.result.now ≡ (r.width - 1) * (r.height - 1)) (sym laid) (ap length c.deref.ensures.value ∙ one_each session.scene mask solved good)
+    λ κs l. subst (λ (r : Raster). length c.deref.result.now ≡ (r.width - 1) * (r.height - 1)) (sym laid) (ap length c.deref.ensures.value ∙ one_each session.scene mask solved good)
 
 pub returns : goal.returns
 returns g c =

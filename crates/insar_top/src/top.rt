@@ -87,8 +87,8 @@ use tile_workers::Gate;
 /// `--tile N` is the side of the square tiles in pixels, from 2 to 128, and 64 if the words do not give it; `screen` has it
 /// for the limit of a session's edits alone. `--rule R` names how the weights of two pixels give that of their edge: `least`,
 /// which is the default, `mean` or `product`. `--workers N` is how many workers solve the tiles of an analyst at once, from 1
-/// to 8, and 2 by default, each of which passes the gate before it solves; `whole` has as many threads at most, with no gate,
-/// and `check`, `check-whole` and `parts` have none. `--ramp-x N` and
+/// to 8, and 2 by default, each of which passes the gate before it solves; `whole` solves and writes with as many threads at
+/// most, with no gate, and `check`, `check-whole` and `parts` have none. `--ramp-x N` and
 /// `--ramp-y N` are what the phase is expected to rise from a pixel to its right and to its lower neighbour, in units of
 /// 1/65536 cycle: N from 0 to 65535, of which those from 32768 on stand for N - 65536, and 0 by default. Differences are
 /// wrapped around it. `--steep N`, from 1 to 16, is how many times as much as the first cycle of a departure each further one

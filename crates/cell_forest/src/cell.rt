@@ -1,3 +1,5 @@
+use crate::record::Record;
+
 /// The directions out of a cell. A direction and its reverse differ in the last binary digit.
 pub const RIGHT: u8 = 0;
 
@@ -17,7 +19,10 @@ pub const FREE: u8 = 5;
 /// tell kinds of it.
 pub const OUTSIDE: u8 = 6;
 
-/// A cell with the edges between it and the cell on the right, and between it and the cell below, in this order.
+/// The greatest weight that a `SmallCell` holds.
+pub const MOST_SMALL_WEIGHT: u16 = 255;
+
+/// A cell with the edges between it and the cell on the right, and between it and the cell below, in this order: 16 bytes.
 #[derive(Clone, Copy)]
 pub struct Cell {
     /// The potential. In a tree the time is added to it.
@@ -32,6 +37,16 @@ pub struct Cell {
     pub step: u8,
 }
 
+/// The same in 8 bytes, where the numbers are small.
+#[derive(Clone, Copy)]
+pub struct SmallCell {
+    pub height: i16,
+    pub weights: [u8; 2],
+    pub flows: [i8; 2],
+    pub excess: i8,
+    pub step: u8,
+}
+
 /// A cell of the outside with nothing set.
 pub const BEYOND: Cell = Cell {
     height: 0,
@@ -41,100 +56,168 @@ pub const BEYOND: Cell = Cell {
     step: OUTSIDE,
 };
 
-/// The cell at a place, or one of the outside if there is none.
-#[inline(always)]
-pub fn cell_at(cells: &[Cell], place: u32) -> &Cell {
-    cells.get(place as usize).unwrap_or(&BEYOND)
-}
+/// A small cell of the outside with nothing set.
+const SMALL_BEYOND: SmallCell = SmallCell {
+    height: 0,
+    weights: [0; 2],
+    flows: [0; 2],
+    excess: 0,
+    step: OUTSIDE,
+};
 
-impl Cell {
-    /// Whether the cell is in a tree.
+impl Record for Cell {
+    const HIGHEST: i32 = 1 << 29;
+
+    const MOST: i32 = 32_767;
+
     #[inline(always)]
-    pub fn is_in_tree(&self) -> bool {
-        self.step <= ROOT
+    fn beyond() -> &'static Cell {
+        &BEYOND
     }
 
-    /// What the cell has to send, times `SIGN`.
     #[inline(always)]
-    pub(crate) fn supply<const SIGN: i32>(&self) -> i32 {
-        i32::from(self.excess).wrapping_mul(SIGN)
+    fn of(weights: [u16; 2], excess: i16, step: u8) -> Cell {
+        Cell {
+            height: 0,
+            weights,
+            flows: [0; 2],
+            excess,
+            step,
+        }
     }
 
-    /// Adds to what the cell has to send, or leaves it as it is if it would not fit.
-    pub(crate) fn supply_more(&mut self, amount: i32) {
-        let sum = i32::from(self.excess).wrapping_add(amount);
-        self.excess = i16::try_from(sum).unwrap_or(self.excess);
-    }
-}
-
-/// The edge that an arc crosses.
-#[derive(Clone, Copy)]
-pub struct Crossing {
-    pub weight: i32,
-    /// What flows along the arc, times the sign that was asked for.
-    pub flow: i32,
-}
-
-/// The edge that an arc crosses, with what flows along the arc, times `SIGN`.
-#[inline(always)]
-pub fn crossing_of<const SIGN: i32>(tail: &Cell, head: &Cell, direction: u8) -> Crossing {
-    let ahead = direction % 2 == 0;
-    let holder = if ahead { tail } else { head };
-    let place = direction as usize / 2;
-    let flow = i32::from(holder.flows.get(place).copied().unwrap_or(0));
-    let weight = holder.weights.get(place).copied().unwrap_or(0);
-    Crossing {
-        weight: i32::from(weight),
-        flow: flow.wrapping_mul(if ahead { SIGN } else { SIGN.wrapping_neg() }),
-    }
-}
-
-impl Crossing {
-    /// What one unit more costs along the arc.
     #[inline(always)]
-    pub fn cost(self, steep: i32) -> i32 {
-        if self.flow == 0 {
-            return self.weight;
-        }
-        let size = if self.flow == -1 {
-            self.weight
-        } else {
-            self.weight.wrapping_mul(steep)
-        };
-        if self.flow < 0 {
-            size.wrapping_neg()
-        } else {
-            size
+    fn height(&self) -> i32 {
+        self.height
+    }
+
+    #[inline(always)]
+    fn set_height(&mut self, height: i32) {
+        self.height = height;
+    }
+
+    #[inline(always)]
+    fn weight(&self, place: usize) -> i32 {
+        i32::from(self.weights.get(place).copied().unwrap_or(0))
+    }
+
+    #[inline(always)]
+    fn flow(&self, place: usize) -> i32 {
+        i32::from(self.flows.get(place).copied().unwrap_or(0))
+    }
+
+    #[inline(always)]
+    fn set_flow(&mut self, place: usize, flow: i32) {
+        if let Some(held) = self.flows.get_mut(place) {
+            *held = i16::try_from(flow).unwrap_or(*held);
         }
     }
 
-    /// How many units can be sent along the arc at the cost of the first, as far as the flow fits.
-    pub fn room(self, steep: i32) -> i32 {
-        let fitting = i32::from(i16::MAX).wrapping_sub(self.flow);
-        if self.weight == 0 || self.flow > 0 {
-            return fitting;
-        }
-        if steep == 1 {
-            return if self.flow == 0 {
-                fitting
-            } else {
-                self.flow.wrapping_neg()
-            };
-        }
-        self.flow.wrapping_add(1).wrapping_neg().max(1)
+    #[inline(always)]
+    fn excess(&self) -> i32 {
+        i32::from(self.excess)
+    }
+
+    #[inline(always)]
+    fn set_excess(&mut self, excess: i32) {
+        self.excess = i16::try_from(excess).unwrap_or(self.excess);
+    }
+
+    #[inline(always)]
+    fn step(&self) -> u8 {
+        self.step
+    }
+
+    #[inline(always)]
+    fn set_step(&mut self, step: u8) {
+        self.step = step;
     }
 }
 
-/// Adds to what flows along an arc, times `SIGN`, or leaves it as it is if it would not fit.
-pub fn push<const SIGN: i32>(cells: &mut [Cell], tail: u32, head: u32, direction: u8, amount: i32) {
-    let ahead = direction % 2 == 0;
-    let holder = if ahead { tail } else { head };
-    let added = amount.wrapping_mul(if ahead { SIGN } else { SIGN.wrapping_neg() });
-    let Some(cell) = cells.get_mut(holder as usize) else {
-        return;
-    };
-    if let Some(flow) = cell.flows.get_mut(direction as usize / 2) {
-        let sum = i32::from(*flow).wrapping_add(added);
-        *flow = i16::try_from(sum).unwrap_or(*flow);
+impl Record for SmallCell {
+    const HIGHEST: i32 = 32_767;
+
+    const MOST: i32 = 127;
+
+    #[inline(always)]
+    fn beyond() -> &'static SmallCell {
+        &SMALL_BEYOND
+    }
+
+    #[inline(always)]
+    fn of(weights: [u16; 2], excess: i16, step: u8) -> SmallCell {
+        let [right, down] = weights;
+        SmallCell {
+            height: 0,
+            weights: [
+                u8::try_from(right).unwrap_or(u8::MAX),
+                u8::try_from(down).unwrap_or(u8::MAX),
+            ],
+            flows: [0; 2],
+            excess: i8::try_from(excess).unwrap_or(0),
+            step,
+        }
+    }
+
+    #[inline(always)]
+    fn height(&self) -> i32 {
+        i32::from(self.height)
+    }
+
+    #[inline(always)]
+    fn set_height(&mut self, height: i32) {
+        self.height = i16::try_from(height).unwrap_or(self.height);
+    }
+
+    #[inline(always)]
+    fn weight(&self, place: usize) -> i32 {
+        i32::from(self.weights.get(place).copied().unwrap_or(0))
+    }
+
+    #[inline(always)]
+    fn flow(&self, place: usize) -> i32 {
+        i32::from(self.flows.get(place).copied().unwrap_or(0))
+    }
+
+    #[inline(always)]
+    fn set_flow(&mut self, place: usize, flow: i32) {
+        if let Some(held) = self.flows.get_mut(place) {
+            *held = i8::try_from(flow).unwrap_or(*held);
+        }
+    }
+
+    #[inline(always)]
+    fn excess(&self) -> i32 {
+        i32::from(self.excess)
+    }
+
+    #[inline(always)]
+    fn set_excess(&mut self, excess: i32) {
+        self.excess = i8::try_from(excess).unwrap_or(self.excess);
+    }
+
+    #[inline(always)]
+    fn step(&self) -> u8 {
+        self.step
+    }
+
+    #[inline(always)]
+    fn set_step(&mut self, step: u8) {
+        self.step = step;
+    }
+}
+
+impl SmallCell {
+    /// The same cell in 16 bytes.
+    pub fn widen(&self) -> Cell {
+        let [right, down] = self.weights;
+        let [flow_right, flow_down] = self.flows;
+        Cell {
+            height: i32::from(self.height),
+            weights: [u16::from(right), u16::from(down)],
+            flows: [i16::from(flow_right), i16::from(flow_down)],
+            excess: i16::from(self.excess),
+            step: self.step,
+        }
     }
 }

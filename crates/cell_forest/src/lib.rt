@@ -2,15 +2,19 @@
 #![tactic(auto)]
 
 mod cell;
+mod crossing;
 mod forest;
 mod growing;
 mod opening;
 mod queue;
+mod record;
 mod searching;
 mod stop;
 
 pub use crate::cell::{
-    BEYOND, Cell, Crossing, DOWN, FREE, LEFT, OUTSIDE, RIGHT, ROOT, UP, cell_at, crossing_of, push,
+    BEYOND, Cell, DOWN, FREE, LEFT, MOST_SMALL_WEIGHT, OUTSIDE, RIGHT, ROOT, SmallCell, UP,
 };
+pub use crate::crossing::{Crossing, crossing_of, push};
 pub use crate::forest::{Forest, PATIENCE};
+pub use crate::record::{Record, cell_at};
 pub use crate::stop::Stop;

@@ -1,5 +1,6 @@
-use crate::cell::{Cell, FREE, LEFT, OUTSIDE, UP, cell_at};
+use crate::cell::{FREE, LEFT, OUTSIDE, UP};
 use crate::forest::Forest;
+use crate::record::{Record, cell_at};
 use crate::stop::Stop;
 use std::alloc::AllocError;
 use std::mem;
@@ -10,9 +11,9 @@ const SQUARE: u32 = 128;
 impl Forest {
     /// Solves the block of the columns from `start` to before `end` of a list of rows, in which blocks of the side `solved`
     /// are solved: its other cells but those of the first row and the first column are taken from the outside, and balanced.
-    pub fn solve_block(
+    pub fn solve_block<C: Record>(
         &mut self,
-        cells: &mut [Cell],
+        cells: &mut [C],
         start: u32,
         end: u32,
         solved: u32,
@@ -39,9 +40,9 @@ impl Forest {
     }
 
     /// Balances the cells that were opened, square by square. The first square begins at the column `start`.
-    fn balance_squares(
+    fn balance_squares<C: Record>(
         &mut self,
-        cells: &mut [Cell],
+        cells: &mut [C],
         start: u32,
         across: u32,
         along: u32,
@@ -69,9 +70,9 @@ impl Forest {
     }
 
     /// Takes every `step`th cell of a row of a block from the outside. `first` is the place of the row's first cell.
-    fn open_row(
+    fn open_row<C: Record>(
         &mut self,
-        cells: &mut [Cell],
+        cells: &mut [C],
         first: u32,
         (start, end): (u32, u32),
         step: u32,
@@ -82,21 +83,21 @@ impl Forest {
         Ok(())
     }
 
-    /// Takes a cell from the outside, and lists it if it has something to send or to be sent. It gives up if that does not fit.
-    fn open_cell(&mut self, cells: &mut [Cell], place: u32) -> Result<(), Stop> {
+    /// Takes a cell from the outside, if it is not opened yet, and lists it if it has something to send or to be sent.
+    fn open_cell<C: Record>(&mut self, cells: &mut [C], place: u32) -> Result<(), Stop> {
         let gained = self.gain(cells, place);
         let Some(cell) = cells.get_mut(place as usize) else {
             return Ok(());
         };
-        if cell.step != OUTSIDE {
-            return Ok(());
+        if cell.step() == OUTSIDE {
+            let excess = cell.excess().wrapping_add(gained);
+            if excess.unsigned_abs() > C::MOST.unsigned_abs() {
+                return Err(Stop::Unfit);
+            }
+            cell.set_step(FREE);
+            cell.set_excess(excess);
         }
-        let Ok(excess) = i16::try_from(i32::from(cell.excess).wrapping_add(gained)) else {
-            return Err(Stop::GivenUp);
-        };
-        cell.step = FREE;
-        cell.excess = excess;
-        if excess != 0 {
+        if cell.step() == FREE && cell.excess() != 0 {
             self.list_opened(place)?;
         }
         Ok(())
@@ -110,13 +111,13 @@ impl Forest {
 
     /// What flows into a cell, less what flows out of it.
     #[inline(always)]
-    pub fn gain(&self, cells: &[Cell], place: u32) -> i32 {
-        let [from_left, _] = cell_at(cells, self.head(place, LEFT)).flows;
-        let [_, from_above] = cell_at(cells, self.head(place, UP)).flows;
-        let [right, down] = cell_at(cells, place).flows;
-        i32::from(from_left)
-            .wrapping_sub(i32::from(right))
-            .wrapping_add(i32::from(from_above))
-            .wrapping_sub(i32::from(down))
+    pub fn gain<C: Record>(&self, cells: &[C], place: u32) -> i32 {
+        let from_left = cell_at(cells, self.head(place, LEFT)).flow(0);
+        let from_above = cell_at(cells, self.head(place, UP)).flow(1);
+        let cell = cell_at(cells, place);
+        from_left
+            .wrapping_sub(cell.flow(0))
+            .wrapping_add(from_above)
+            .wrapping_sub(cell.flow(1))
     }
 }

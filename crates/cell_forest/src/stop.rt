@@ -5,8 +5,10 @@ use std::alloc::AllocError;
 pub enum Stop {
     /// Memory ran out.
     Memory,
-    /// A number did not fit, or the steps ran out.
+    /// The steps ran out.
     GivenUp,
+    /// A number did not fit its cell. In greater cells one can go on.
+    Unfit,
 }
 
 impl From<AllocError> for Stop {

@@ -18,7 +18,7 @@ impl Tile {
         forest.set_stride(self.stride);
         match self.solve_levels(&mut forest) {
             Err(Stop::Memory) => Err(AllocError),
-            Ok(()) | Err(Stop::GivenUp) => Ok(()),
+            Ok(()) | Err(Stop::GivenUp | Stop::Unfit) => Ok(()),
         }
     }
 

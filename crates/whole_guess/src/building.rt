@@ -1,6 +1,5 @@
 use crate::guess::Task;
-use crate::waters::{Ground, LAKE, SEA};
-use cell_forest::{Cell, FREE, OUTSIDE};
+use cell_forest::{FREE, OUTSIDE, Record};
 use raster_model::{Mask, Sheet, Terms, wrapped_ramp};
 use std::alloc::{AllocError, Global};
 use std::mem;
@@ -38,15 +37,15 @@ struct Side {
 
 /// A block, and two rows of pixels with which it is made.
 #[derive(Drop)]
-pub(crate) struct Block {
-    pub(crate) cells: Vec<Cell>,
+pub(crate) struct Block<C: Record> {
+    pub(crate) cells: Vec<C>,
     above: Vec<Pixel>,
     here: Vec<Pixel>,
 }
 
-impl Block {
+impl<C: Record> Block<C> {
     /// A block without cells.
-    pub(crate) fn new(alloc: Global) -> Block {
+    pub(crate) fn new(alloc: Global) -> Block<C> {
         Block {
             cells: Vec::new(alloc),
             above: Vec::new(alloc),
@@ -137,7 +136,7 @@ impl Block {
         for column in 0..across {
             let place = first.wrapping_add(column);
             if let Some(cell) = self.cells.get(place as usize) {
-                if cell.excess != 0 && cell.step == FREE {
+                if cell.excess() != 0 && cell.step() == FREE {
                     listed.push(place)?;
                 }
             }
@@ -215,7 +214,7 @@ fn load_each(
             } else {
                 0
             },
-            step: step_by(task.waters.ground(x, y)),
+            step: task.waters.step(x, y),
         })?;
         left = phase;
         x = x.wrapping_add(1);
@@ -237,19 +236,19 @@ fn number_at(list: &[u16], place: u32) -> u16 {
 
 /// Makes a cell a part of the outside. `beyond` tells that it is no cell of the raster; otherwise the sea and lakes are still
 /// told apart.
-fn close(cell: &mut Cell, beyond: bool) {
+fn close<C: Record>(cell: &mut C, beyond: bool) {
     if beyond {
-        cell.excess = 0;
+        cell.set_excess(0);
     }
-    if beyond || cell.step == FREE {
-        cell.step = OUTSIDE;
+    if beyond || cell.step() == FREE {
+        cell.set_step(OUTSIDE);
     }
 }
 
 /// The cell between two sides. `weights` are those of the edges at its lower right corner, from above and from the left,
 /// before the mask.
 #[inline(always)]
-fn cell_of(left: Side, right: Side, weights: [u16; 2]) -> Cell {
+fn cell_of<C: Record>(left: Side, right: Side, weights: [u16; 2]) -> C {
     let [right_weight, down_weight] = weights;
     let (upper, lower) = (right.upper, right.lower);
     let round = upper
@@ -257,24 +256,12 @@ fn cell_of(left: Side, right: Side, weights: [u16; 2]) -> Cell {
         .wrapping_add(right.rise)
         .wrapping_sub(lower.rise)
         .wrapping_sub(left.rise);
-    Cell {
-        height: 0,
-        weights: [
+    C::of(
+        [
             right_weight & upper.opened & lower.opened,
             down_weight & left.lower.opened & lower.opened,
         ],
-        flows: [0; 2],
-        excess: i16::try_from(round / 65536).unwrap_or(0),
-        step: left.step.max(right.step),
-    }
-}
-
-/// What the cells around a pixel hold in place of a step.
-#[inline(always)]
-fn step_by(ground: Ground) -> u8 {
-    match ground {
-        Ground::Land | Ground::Pond => FREE,
-        Ground::Sea => SEA,
-        Ground::Lake => LAKE,
-    }
+        i16::try_from(round / 65536).unwrap_or(0),
+        left.step.max(right.step),
+    )
 }

@@ -1,10 +1,9 @@
-use crate::draining::{drain_sea, fill_lakes};
-use crate::integrating::{cycles, faces};
-use crate::levels::solve_levels;
+use crate::integrating::{cycles, faces, heights};
 use crate::reaching::Reached;
 use crate::residues::has_residue;
+use crate::stages::Cells;
 use crate::waters::Waters;
-use cell_forest::{BEYOND, Cell, PATIENCE, Stop};
+use cell_forest::{PATIENCE, Stop};
 use raster_model::{Mask, Sheet};
 use std::alloc::{AllocError, Global};
 use std::thread::Threads;
@@ -53,13 +52,11 @@ pub fn guess_whole_within<R: Threads + Sync>(
     patience: u64,
 ) -> Result<Guess, AllocError> {
     let (cells, is_solved) = solve_cells(rt, alloc, sheet, mask, workers, patience)?;
-    if !is_solved {
-        return Ok(Guess::Reached(Reached::of(alloc, &cells, sheet.phase.width)?));
+    if is_solved {
+        surface(rt, alloc, sheet, mask, workers, cells)
+    } else {
+        Ok(Guess::Reached(cells.reached(alloc, sheet.phase.width)?))
     }
-    Ok(Guess::Surface {
-        cycles: cycles(rt, alloc, sheet, mask, &cells, workers)?,
-        faces: faces(rt, alloc, sheet, &cells, workers)?,
-    })
 }
 
 /// The cells of a sheet as they are solved, and whether nothing was given up. Where no cell has a residue nothing flows and all
@@ -71,11 +68,10 @@ fn solve_cells<R: Threads + Sync>(
     mask: &Mask,
     workers: u32,
     patience: u64,
-) -> Result<(Vec<Cell>, bool), AllocError> {
+) -> Result<(Cells, bool), AllocError> {
     if !has_residue(sheet) {
-        return Ok((Vec::new(alloc), true));
+        return Ok((Cells::none(alloc), true));
     }
-    let mut cells = vec![in alloc; BEYOND; sheet.phase.samples.len()]?;
     let waters = Waters::of(alloc, mask)?;
     let task = Task {
         sheet,
@@ -83,26 +79,41 @@ fn solve_cells<R: Threads + Sync>(
         waters: &waters,
         patience,
     };
-    let is_solved = solve(rt, alloc, &task, &mut cells, workers)?;
-    drain_sea(alloc, &task, &mut cells)?;
-    Ok((cells, is_solved))
+    let mut cells = Cells::outside(alloc, &task)?;
+    let is_solved = is_done(cells.solve(rt, alloc, &task, workers))?;
+    let is_drained = is_done(cells.drain_sea(alloc, &task))?;
+    Ok((cells, is_solved && is_drained))
 }
 
-/// Solves all blocks, level by level, and the lakes. The result is whether nothing was given up.
-fn solve<R: Threads + Sync>(
-    rt: &R,
-    alloc: Global,
-    task: &Task<'_>,
-    cells: &mut [Cell],
-    workers: u32,
-) -> Result<bool, AllocError> {
-    let mut outcome = solve_levels(rt, alloc, task, cells, workers);
-    if let Ok(()) = outcome {
-        outcome = fill_lakes(alloc, task, cells);
-    }
+/// Whether nothing was given up.
+fn is_done(outcome: Result<(), Stop>) -> Result<bool, AllocError> {
     match outcome {
         Ok(()) => Ok(true),
-        Err(Stop::GivenUp) => Ok(false),
+        Err(Stop::GivenUp | Stop::Unfit) => Ok(false),
         Err(Stop::Memory) => Err(AllocError),
+    }
+}
+
+/// The surface that solved cells tell, with its faces. No more is kept than is needed for what is still to be told.
+fn surface<R: Threads + Sync>(
+    rt: &R,
+    alloc: Global,
+    sheet: &Sheet,
+    mask: &Mask,
+    workers: u32,
+    cells: Cells,
+) -> Result<Guess, AllocError> {
+    match cells {
+        Cells::Small(cells) => {
+            let cycles = cycles(rt, alloc, sheet, mask, &cells, workers)?;
+            let heights = heights(rt, alloc, sheet, &cells, workers)?;
+            drop(cells);
+            let faces = faces(rt, alloc, sheet, &heights, workers)?;
+            Ok(Guess::Surface { cycles, faces })
+        }
+        Cells::Wide(cells) => Ok(Guess::Surface {
+            cycles: cycles(rt, alloc, sheet, mask, &cells, workers)?,
+            faces: faces(rt, alloc, sheet, &cells, workers)?,
+        }),
     }
 }

@@ -1,4 +1,4 @@
-use cell_forest::{Cell, cell_at};
+use cell_forest::{Cell, Record, SmallCell, cell_at};
 use raster_model::{Mask, Sheet, turns_ramp};
 use std::alloc::{AllocError, Global};
 use std::thread;
@@ -9,42 +9,85 @@ const ROWS: usize = 64;
 
 /// A part of a list in row order.
 #[derive(Drop)]
-struct Part<'a> {
-    numbers: &'a mut [i64],
+struct Part<'a, N> {
+    numbers: &'a mut [N],
     /// Its first row.
     row: u32,
 }
 
+/// What tells a face.
+pub(crate) trait Height: Sync {
+    /// The face: minus the potential.
+    fn face(&self) -> i64;
+}
+
+impl Height for i16 {
+    #[inline(always)]
+    fn face(&self) -> i64 {
+        i64::from(*self).wrapping_neg()
+    }
+}
+
+impl Height for Cell {
+    #[inline(always)]
+    fn face(&self) -> i64 {
+        i64::from(self.height).wrapping_neg()
+    }
+}
+
 /// The whole cycles above the phase at the pixels, in row order. They are 0 at the first open pixel.
-pub(crate) fn cycles<R: Threads + Sync>(
+pub(crate) fn cycles<R: Threads + Sync, C: Record>(
     rt: &R,
     alloc: Global,
     sheet: &Sheet,
     mask: &Mask,
-    cells: &[Cell],
+    cells: &[C],
     workers: u32,
 ) -> Result<Vec<i64>, AllocError> {
     let mut list = vec![in alloc; 0; sheet.phase.samples.len()]?;
-    let start = start(sheet, mask, cells);
+    let firsts = first_column(alloc, sheet, mask, cells)?;
     let mut parts = cut(alloc, &mut list, sheet.phase.width)?;
     thread::for_each_mut(
         rt,
         &mut parts,
         workers.max(1) as usize,
-        &|_, part: &mut Part<'_>| {
-            part.set_cycles(sheet, cells, start);
+        &|_, part: &mut Part<'_, i64>| {
+            part.set_cycles(sheet, cells, &firsts);
         },
     );
     drop(parts);
     Ok(list)
 }
 
-/// The faces of the cells, in row order: minus their potentials.
-pub(crate) fn faces<R: Threads + Sync>(
+/// The potentials of small cells, in row order.
+pub(crate) fn heights<R: Threads + Sync>(
     rt: &R,
     alloc: Global,
     sheet: &Sheet,
-    cells: &[Cell],
+    cells: &[SmallCell],
+    workers: u32,
+) -> Result<Vec<i16>, AllocError> {
+    let mut list = vec![in alloc; 0; cells.len()]?;
+    let width = sheet.phase.width;
+    let mut parts = cut(alloc, &mut list, width)?;
+    thread::for_each_mut(
+        rt,
+        &mut parts,
+        workers.max(1) as usize,
+        &|_, part: &mut Part<'_, i16>| {
+            part.set_heights(width, cells);
+        },
+    );
+    drop(parts);
+    Ok(list)
+}
+
+/// The faces of the cells, in row order.
+pub(crate) fn faces<R: Threads + Sync, H: Height>(
+    rt: &R,
+    alloc: Global,
+    sheet: &Sheet,
+    heights: &[H],
     workers: u32,
 ) -> Result<Vec<i64>, AllocError> {
     let across = sheet.phase.width.saturating_sub(1);
@@ -55,8 +98,8 @@ pub(crate) fn faces<R: Threads + Sync>(
         rt,
         &mut parts,
         workers.max(1) as usize,
-        &|_, part: &mut Part<'_>| {
-            part.set_faces(across, cells);
+        &|_, part: &mut Part<'_, i64>| {
+            part.set_faces(across, heights);
         },
     );
     drop(parts);
@@ -64,7 +107,11 @@ pub(crate) fn faces<R: Threads + Sync>(
 }
 
 /// Cuts a list of rows into parts.
-fn cut<'a>(alloc: Global, list: &'a mut [i64], width: u32) -> Result<Vec<Part<'a>>, AllocError> {
+fn cut<'a, N>(
+    alloc: Global,
+    list: &'a mut [N],
+    width: u32,
+) -> Result<Vec<Part<'a, N>>, AllocError> {
     let mut parts = Vec::new(alloc);
     let mut row: u32 = 0;
     for numbers in list.chunks_mut((width as usize * ROWS).max(1)) {
@@ -74,35 +121,45 @@ fn cut<'a>(alloc: Global, list: &'a mut [i64], width: u32) -> Result<Vec<Part<'a
     Ok(parts)
 }
 
-impl Part<'_> {
-    /// Sets the cycles, where the first pixel of the raster has `start`.
-    fn set_cycles(&mut self, sheet: &Sheet, cells: &[Cell], start: i64) {
-        let mut first = start;
-        for y in 0..self.row {
-            first = first.wrapping_add(rise_down(sheet, cells, y));
-        }
+impl Part<'_, i64> {
+    /// Sets the cycles, by those of the first pixel of each row.
+    fn set_cycles<C: Record>(&mut self, sheet: &Sheet, cells: &[C], firsts: &[i64]) {
         let mut y = self.row;
         for row in self.numbers.chunks_mut(sheet.phase.width as usize) {
-            first = first.wrapping_add(rise_down(sheet, cells, y));
+            let first = firsts.get(y as usize).copied().unwrap_or(0);
             set_row(sheet, cells, y, first, row);
             y = y.wrapping_add(1);
         }
     }
 
     /// Sets the faces, of which a row has `across`.
-    fn set_faces(&mut self, across: u32, cells: &[Cell]) {
+    fn set_faces<H: Height>(&mut self, across: u32, heights: &[H]) {
         let mut y = self.row;
         let width = across.wrapping_add(1);
         for row in self.numbers.chunks_mut(across.max(1) as usize) {
             y = y.wrapping_add(1);
             let first = y.wrapping_mul(width).wrapping_add(1) as usize;
-            set_faces(row, cells.get(first..first + row.len()).unwrap_or(&[]));
+            set_faces(row, heights.get(first..first + row.len()).unwrap_or(&[]));
+        }
+    }
+}
+
+impl Part<'_, i16> {
+    /// Sets the potentials, of which a row has `width`.
+    fn set_heights(&mut self, width: u32, cells: &[SmallCell]) {
+        let first = self.row.wrapping_mul(width) as usize;
+        for (height, cell) in self
+            .numbers
+            .iter_mut()
+            .zip(cells.get(first..).unwrap_or(&[]))
+        {
+            *height = cell.height;
         }
     }
 }
 
 /// Sets the cycles at the pixels of a row of which the first has `first`.
-fn set_row(sheet: &Sheet, cells: &[Cell], y: u32, first: i64, row: &mut [i64]) {
+fn set_row<C: Record>(sheet: &Sheet, cells: &[C], y: u32, first: i64, row: &mut [i64]) {
     let mut cycles = first;
     let mut x: u32 = 0;
     for number in row {
@@ -115,14 +172,30 @@ fn set_row(sheet: &Sheet, cells: &[Cell], y: u32, first: i64, row: &mut [i64]) {
 }
 
 /// Sets the faces of the cells of a row.
-fn set_faces(row: &mut [i64], cells: &[Cell]) {
-    for (face, cell) in row.iter_mut().zip(cells) {
-        *face = i64::from(cell.height).wrapping_neg();
+fn set_faces<H: Height>(row: &mut [i64], heights: &[H]) {
+    for (face, height) in row.iter_mut().zip(heights) {
+        *face = height.face();
     }
 }
 
+/// The cycles at the first pixel of each row.
+fn first_column<C: Record>(
+    alloc: Global,
+    sheet: &Sheet,
+    mask: &Mask,
+    cells: &[C],
+) -> Result<Vec<i64>, AllocError> {
+    let mut list = Vec::new(alloc);
+    let mut first = start(sheet, mask, cells);
+    for y in 0..sheet.phase.height {
+        first = first.wrapping_add(rise_down(sheet, cells, y));
+        list.push(first)?;
+    }
+    Ok(list)
+}
+
 /// The cycles at the first pixel by which those at the first open pixel are 0, or 0 if no pixel is open.
-fn start(sheet: &Sheet, mask: &Mask, cells: &[Cell]) -> i64 {
+fn start<C: Record>(sheet: &Sheet, mask: &Mask, cells: &[C]) -> i64 {
     if mask.width() != sheet.phase.width || mask.height() != sheet.phase.height {
         return 0;
     }
@@ -140,7 +213,7 @@ fn start(sheet: &Sheet, mask: &Mask, cells: &[Cell]) -> i64 {
 }
 
 /// By how many cycles the first pixel of a row is above that of the row before.
-fn rise_down(sheet: &Sheet, cells: &[Cell], y: u32) -> i64 {
+fn rise_down<C: Record>(sheet: &Sheet, cells: &[C], y: u32) -> i64 {
     if y == 0 {
         return 0;
     }
@@ -151,7 +224,7 @@ fn rise_down(sheet: &Sheet, cells: &[Cell], y: u32) -> i64 {
         phase_at(sheet, place),
         sheet.terms.slope(true),
     );
-    let [right, _] = cell_at(cells, place).flows;
+    let right = cell_at(cells, place).flow(0);
     i64::from(right)
         .wrapping_add(i64::from(turns))
         .wrapping_neg()
@@ -159,14 +232,14 @@ fn rise_down(sheet: &Sheet, cells: &[Cell], y: u32) -> i64 {
 
 /// By how many cycles a pixel is above the one on its left.
 #[inline(always)]
-fn rise_right(sheet: &Sheet, cells: &[Cell], x: u32, y: u32) -> i64 {
+fn rise_right<C: Record>(sheet: &Sheet, cells: &[C], x: u32, y: u32) -> i64 {
     let place = y.wrapping_mul(sheet.phase.width).wrapping_add(x);
     let turns = turns_ramp(
         phase_at(sheet, place.wrapping_sub(1)),
         phase_at(sheet, place),
         sheet.terms.slope(false),
     );
-    let [_, down] = cell_at(cells, place).flows;
+    let down = cell_at(cells, place).flow(1);
     i64::from(down).wrapping_sub(i64::from(turns))
 }
 

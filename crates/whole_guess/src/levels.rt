@@ -1,48 +1,50 @@
 use crate::building::Block;
 use crate::guess::Task;
-use cell_forest::{Cell, Forest, Stop};
+use cell_forest::{Cell, Forest, Record, SmallCell, Stop};
 use std::alloc::{AllocError, Global};
 use std::thread;
 use std::thread::Threads;
 
 /// The side of the smallest blocks, in cells.
-const SMALLEST: u32 = 32;
+pub(crate) const SMALLEST: u32 = 32;
 
 /// How many blocks of a level lie across a block of the next.
-const GROWTH: u32 = 2;
+pub(crate) const GROWTH: u32 = 2;
 
 /// A strip of rows as high as a block, and what solves its blocks.
 #[derive(Drop)]
-struct Strip<'a> {
-    cells: &'a mut [Cell],
+struct Strip<'a, C: Record> {
+    cells: &'a mut [C],
     /// Its first row.
     row: u32,
     forest: Forest,
     outcome: Result<(), Stop>,
 }
 
-/// Solves the blocks level by level, until one block is the whole. The strips of a level are solved side by side.
-pub(crate) fn solve_levels<R: Threads + Sync>(
+/// Solves the blocks of a side of small cells, where those of the level before are solved. The strips are solved side by side. If a number does not fit,
+/// the same can be done again with wide cells: what is solved stays so.
+pub(crate) fn solve_small<R: Threads + Sync>(
     rt: &R,
     alloc: Global,
     task: &Task<'_>,
-    cells: &mut [Cell],
+    cells: &mut [SmallCell],
+    side: u32,
     workers: u32,
 ) -> Result<(), Stop> {
-    let phase = &task.sheet.phase;
-    let mut side = SMALLEST;
-    for _ in 0..16 {
-        solve_level(rt, alloc, task, cells, side, workers)?;
-        if side >= phase.width && side >= phase.height {
-            return Ok(());
-        }
-        side = side.wrapping_mul(GROWTH);
-    }
-    Ok(())
+    let mut strips = cut(alloc, task, cells, side)?;
+    thread::for_each_mut(
+        rt,
+        &mut strips,
+        workers.max(1) as usize,
+        &|_, strip: &mut Strip<'_, SmallCell>| {
+            strip.outcome = strip.solve(alloc, task, side);
+        },
+    );
+    outcome_of(&strips)
 }
 
-/// Solves the blocks of a side.
-fn solve_level<R: Threads + Sync>(
+/// Solves the blocks of a side of wide cells, where those of the level before are solved. The strips are solved side by side.
+pub(crate) fn solve_wide<R: Threads + Sync>(
     rt: &R,
     alloc: Global,
     task: &Task<'_>,
@@ -55,23 +57,28 @@ fn solve_level<R: Threads + Sync>(
         rt,
         &mut strips,
         workers.max(1) as usize,
-        &|_, strip: &mut Strip<'_>| {
+        &|_, strip: &mut Strip<'_, Cell>| {
             strip.outcome = strip.solve(alloc, task, side);
         },
     );
-    for strip in &strips {
+    outcome_of(&strips)
+}
+
+/// The first fault of some strips, if one has a fault.
+fn outcome_of<C: Record>(strips: &[Strip<'_, C>]) -> Result<(), Stop> {
+    for strip in strips {
         strip.outcome?;
     }
     Ok(())
 }
 
 /// Cuts the cells into strips as high as a block.
-fn cut<'a>(
+fn cut<'a, C: Record>(
     alloc: Global,
     task: &Task<'_>,
-    cells: &'a mut [Cell],
+    cells: &'a mut [C],
     side: u32,
-) -> Result<Vec<Strip<'a>>, AllocError> {
+) -> Result<Vec<Strip<'a, C>>, AllocError> {
     let sheet = task.sheet;
     let size = side.wrapping_mul(sheet.phase.width).max(1) as usize;
     let (steep, greatest) = (sheet.terms.steep, u32::from(sheet.weights.maxval));
@@ -90,7 +97,7 @@ fn cut<'a>(
     Ok(strips)
 }
 
-impl Strip<'_> {
+impl<C: Record> Strip<'_, C> {
     /// Solves the blocks of the strip. If one is given up, so are those after it.
     fn solve(&mut self, alloc: Global, task: &Task<'_>, side: u32) -> Result<(), Stop> {
         if side == SMALLEST {
@@ -129,7 +136,7 @@ impl Strip<'_> {
 }
 
 /// Copies a block into a strip, from the column `first` on.
-fn copy_block(block: &[Cell], across: u32, cells: &mut [Cell], first: u32, width: u32) {
+fn copy_block<C: Record>(block: &[C], across: u32, cells: &mut [C], first: u32, width: u32) {
     let mut place = first as usize;
     for row in block.chunks(across.max(1) as usize) {
         if let Some(part) = cells.get_mut(place..place.wrapping_add(row.len())) {

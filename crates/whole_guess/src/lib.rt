@@ -9,6 +9,8 @@ mod integrating;
 mod levels;
 mod reaching;
 mod residues;
+mod runs;
+mod stages;
 mod waters;
 
 pub use crate::guess::{Guess, guess_whole, guess_whole_within};

@@ -1,4 +1,4 @@
-use cell_forest::Cell;
+use cell_forest::Record;
 use std::alloc::{AllocError, Global};
 
 /// Flows and faces that fit each other, which leave some cells with something to send. All lists are in row order.
@@ -16,7 +16,11 @@ pub struct Reached {
 
 impl Reached {
     /// What the cells hold, in rows of `width`.
-    pub(crate) fn of(alloc: Global, cells: &[Cell], width: u32) -> Result<Reached, AllocError> {
+    pub(crate) fn of<C: Record>(
+        alloc: Global,
+        cells: &[C],
+        width: u32,
+    ) -> Result<Reached, AllocError> {
         let width = width as usize;
         Ok(Reached {
             right: right_flows(alloc, cells, width)?,
@@ -27,33 +31,35 @@ impl Reached {
 }
 
 /// What flows across the right edges.
-fn right_flows(alloc: Global, cells: &[Cell], width: usize) -> Result<Vec<i32>, AllocError> {
+fn right_flows<C: Record>(
+    alloc: Global,
+    cells: &[C],
+    width: usize,
+) -> Result<Vec<i32>, AllocError> {
     let mut list = Vec::new(alloc);
     for row in cells.chunks(width.max(1)) {
         for cell in row.iter().skip(1) {
-            let [_, down] = cell.flows;
-            list.push(i32::from(down))?;
+            list.push(cell.flow(1))?;
         }
     }
     Ok(list)
 }
 
 /// What flows across the down edges.
-fn down_flows(alloc: Global, cells: &[Cell], width: usize) -> Result<Vec<i32>, AllocError> {
+fn down_flows<C: Record>(alloc: Global, cells: &[C], width: usize) -> Result<Vec<i32>, AllocError> {
     let mut list = Vec::new(alloc);
     for cell in cells.iter().skip(width) {
-        let [right, _] = cell.flows;
-        list.push(i32::from(right).wrapping_neg())?;
+        list.push(cell.flow(0).wrapping_neg())?;
     }
     Ok(list)
 }
 
 /// The faces of the cells.
-fn faces(alloc: Global, cells: &[Cell], width: usize) -> Result<Vec<i64>, AllocError> {
+fn faces<C: Record>(alloc: Global, cells: &[C], width: usize) -> Result<Vec<i64>, AllocError> {
     let mut list = Vec::new(alloc);
     for row in cells.chunks(width.max(1)).skip(1) {
         for cell in row.iter().skip(1) {
-            list.push(i64::from(cell.height).wrapping_neg())?;
+            list.push(i64::from(cell.height()).wrapping_neg())?;
         }
     }
     Ok(list)

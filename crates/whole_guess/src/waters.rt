@@ -1,4 +1,5 @@
-use cell_forest::OUTSIDE;
+use crate::runs::Runs;
+use cell_forest::{FREE, OUTSIDE};
 use raster_model::Mask;
 use std::alloc::{AllocError, Global};
 
@@ -9,31 +10,19 @@ pub(crate) const SEA: u8 = OUTSIDE + 1;
 pub(crate) const LAKE: u8 = OUTSIDE + 2;
 
 /// How many pixels a lake has at least.
-const LEAST: usize = 256;
+const LEAST: u32 = 256;
 
-/// What a pixel is.
-#[derive(Clone, Copy, PartialEq, Eq)]
-pub(crate) enum Ground {
-    /// Open, or masked among few.
-    Land,
-    /// Masked, with few around it so far as is known.
-    Pond,
-    /// Masked, and joined by masked pixels to the border of the raster.
-    Sea,
-    /// Masked among many that are joined, none of which is at the border.
-    Lake,
-}
-
-/// The sea and the lakes of a mask. Masked pixels are joined side by side or corner to corner. No edge at one of them costs
-/// anything, so what flows to a cell around them flows on at no cost to each other cell around those that are joined to it.
+/// The sea and the lakes of a mask: masked pixels that are joined to the border of the raster, and those that are many and are not.
+/// They are joined side by side or corner to corner. No edge at one of them costs anything, so what flows to a cell around them
+/// flows on at no cost to each other cell around those that are joined to it.
 #[derive(Drop)]
 pub(crate) struct Waters {
     width: u32,
-    height: u32,
-    /// For each pixel in row order what it is, or an empty list if none is masked.
-    grounds: Vec<Ground>,
-    /// Pixels that are joined.
-    joined: Vec<u32>,
+    pub(crate) height: u32,
+    /// For each pixel in row order what the cells around it hold in place of a step, or an empty list if none is masked.
+    steps: Vec<u8>,
+    /// For each row whether a lake has a pixel in it.
+    lake_rows: Vec<bool>,
     pub(crate) has_sea: bool,
     pub(crate) has_lakes: bool,
 }
@@ -45,99 +34,63 @@ impl Waters {
         let mut waters = Waters {
             width,
             height,
-            grounds: Vec::new(alloc),
-            joined: Vec::new(alloc),
+            steps: Vec::new(alloc),
+            lake_rows: vec![in alloc; false; height as usize]?,
             has_sea: false,
             has_lakes: false,
         };
-        for y in 0..height {
-            if !mask.is_open_span(y, 0, width - 1) {
-                waters.search_row(alloc, mask, y)?;
-            }
+        let mut runs = Runs::of(alloc, mask)?;
+        if runs.count() > 0 {
+            waters.steps = vec![in alloc; FREE; width as usize * height as usize]?;
+            waters.note(&mut runs);
         }
         Ok(waters)
     }
 
-    /// What a pixel is. What is beyond the raster is land.
+    /// What the cells around a pixel hold in place of a step, by that pixel alone. What is beyond the raster is land.
     #[inline(always)]
-    pub(crate) fn ground(&self, x: u32, y: u32) -> Ground {
+    pub(crate) fn step(&self, x: u32, y: u32) -> u8 {
         let place = y.wrapping_mul(self.width).wrapping_add(x);
-        self.grounds
-            .get(place as usize)
-            .copied()
-            .unwrap_or(Ground::Land)
+        self.steps.get(place as usize).copied().unwrap_or(FREE)
     }
 
-    /// Finds what the masked pixels of a row are joined to.
-    fn search_row(&mut self, alloc: Global, mask: &Mask, y: u32) -> Result<(), AllocError> {
-        if self.grounds.is_empty() {
-            let count = self.width as usize * self.height as usize;
-            self.grounds = vec![in alloc; Ground::Land; count]?;
-        }
-        for x in 0..self.width {
-            self.joined.clear();
-            self.reach(mask, x, y)?;
-            if !self.joined.is_empty() {
-                self.flood(mask)?;
-            }
-        }
-        Ok(())
+    /// Whether a row of cells may have one of a lake.
+    pub(crate) fn may_have_lake(&self, y: u32) -> bool {
+        self.has_lake(y) || self.has_lake(y.wrapping_sub(1))
     }
 
-    /// Finds all pixels that are joined to the first one, and what they are.
-    fn flood(&mut self, mask: &Mask) -> Result<(), AllocError> {
-        let mut at_border = false;
-        for index in 0..self.grounds.len() {
-            let Some(place) = self.joined.get(index).copied() else {
-                break;
-            };
-            let x = place % self.width.max(1);
-            let y = place / self.width.max(1);
-            at_border |= x == 0 || y == 0;
-            at_border |= x.wrapping_add(1) == self.width || y.wrapping_add(1) == self.height;
-            self.reach_row(mask, x, y.wrapping_sub(1))?;
-            self.reach_row(mask, x, y)?;
-            self.reach_row(mask, x, y.wrapping_add(1))?;
-        }
-        if at_border {
-            self.has_sea = true;
-            self.name_joined(Ground::Sea);
-        } else if self.joined.len() >= LEAST {
-            self.has_lakes = true;
-            self.name_joined(Ground::Lake);
-        }
-        Ok(())
+    /// Whether a lake has a pixel in a row.
+    fn has_lake(&self, y: u32) -> bool {
+        self.lake_rows.get(y as usize).copied().unwrap_or(false)
     }
 
-    /// Notes what the joined pixels are.
-    fn name_joined(&mut self, ground: Ground) {
-        for place in &self.joined {
-            if let Some(held) = self.grounds.get_mut(*place as usize) {
-                *held = ground;
+    /// Notes what the pixels of all runs are.
+    fn note(&mut self, runs: &mut Runs) {
+        for number in 0..runs.count() {
+            let (size, at_border) = runs.joined(number);
+            if at_border {
+                self.has_sea = true;
+                set_span(&mut self.steps, runs.span(number), SEA);
+            } else if size >= LEAST {
+                self.has_lakes = true;
+                set_span(&mut self.steps, runs.span(number), LAKE);
+                self.note_lake_row(runs.span(number));
             }
         }
     }
 
-    /// Joins those of three pixels of a row, around the column `x`, that are masked.
-    fn reach_row(&mut self, mask: &Mask, x: u32, y: u32) -> Result<(), AllocError> {
-        self.reach(mask, x.wrapping_sub(1), y)?;
-        self.reach(mask, x, y)?;
-        self.reach(mask, x.wrapping_add(1), y)
+    /// Notes that a lake has pixels from a place on.
+    fn note_lake_row(&mut self, (start, _): (u32, u32)) {
+        let y = start / self.width.max(1);
+        if let Some(row) = self.lake_rows.get_mut(y as usize) {
+            *row = true;
+        }
     }
+}
 
-    /// Joins a pixel, if it is masked and was not met before.
-    #[inline(always)]
-    fn reach(&mut self, mask: &Mask, x: u32, y: u32) -> Result<(), AllocError> {
-        if x >= mask.width() || y >= mask.height() || mask.is_open(x, y) {
-            return Ok(());
-        }
-        let place = y.wrapping_mul(self.width).wrapping_add(x);
-        if let Some(ground) = self.grounds.get_mut(place as usize) {
-            if *ground == Ground::Land {
-                *ground = Ground::Pond;
-                self.joined.push(place)?;
-            }
-        }
-        Ok(())
+/// Sets what is held for the pixels from a place to before another.
+fn set_span(steps: &mut [u8], (start, end): (u32, u32), step: u8) {
+    if let Some(part) = steps.get_mut(start as usize..end as usize) {
+        part.fill(step);
     }
 }

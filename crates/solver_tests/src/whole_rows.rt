@@ -3,7 +3,7 @@ use raster_model::{Scene, Terms, Tiling};
 use std::alloc::Global;
 use std::process::Abort;
 use std::thread::Threads;
-use whole_guess::{Guess, Reached};
+use whole_guess::{Guess, Reached, guess_whole};
 use whole_solver::{WholeResult, solve_whole, solve_whole_from};
 use worked_scenes::{cycles, field, masked, numbers, scene_on};
 
@@ -97,4 +97,51 @@ fn the_whole_costs_less_than_its_tiles(rt: HostRuntime) {
     let solved = solve_whole(&rt, alloc, &scene.sheet(), &mask, 2).expect(&rt, "memory");
     let found = told(&rt, alloc, &solved);
     same(&rt, "whole", &found, "[0, 0, 0, -1, 0, -1, -1, -1] 5");
+}
+
+/// The side of a raster round whose middle cell the phase makes a full turn.
+const ROUND: u32 = 260;
+
+/// The phase of a pixel by its quarter of that raster.
+fn quarter_phase(x: u32, y: u32) -> u16 {
+    match (x < ROUND / 2, y < ROUND / 2) {
+        (true, true) => 0,
+        (false, true) => 16384,
+        (false, false) => 32768,
+        (true, false) => 49152,
+    }
+}
+
+/// That raster, in which each weight is 255.
+fn round(rt: &impl Abort, alloc: Global) -> Scene {
+    let mut phases = Vec::new(alloc);
+    for place in 0..ROUND * ROUND {
+        let phase = quarter_phase(place % ROUND, place / ROUND);
+        phases.push(phase).expect(rt, "memory");
+    }
+    let weights = vec![in alloc; 255; phases.len()].expect(rt, "memory");
+    let tiling = Tiling::new(ROUND, ROUND, 64);
+    scene_on(alloc, Terms::plain(), tiling, 255, &phases, &weights).expect(rt, "a scene")
+}
+
+/// The middle cell is 130 edges away from the border, and each has to be corrected by a cycle: 130 times 255. That is the cell's
+/// face, and more than 16 bits hold.
+#[test]
+fn a_guess_goes_on_in_wide_cells(rt: HostRuntime) {
+    let alloc = rt.alloc();
+    let scene = round(&rt, alloc);
+    let ones = vec![in alloc; 1; (ROUND * ROUND) as usize].expect(&rt, "memory");
+    let mask = masked(alloc, &scene.tiling, &ones).expect(&rt, "a mask");
+    let guess = guess_whole(&rt, alloc, &scene.sheet(), &mask, 2).expect(&rt, "memory");
+    assert!(rt; matches!(&guess, Guess::Surface { .. }));
+    let solved = solve_whole_from(&rt, alloc, &scene.sheet(), &mask, 2, Some(guess)).expect(
+        &rt, "memory",
+    );
+    assert!(rt;
+        solved.cost == 33_150
+            && solved
+                .faces
+                .iter()
+                .any(|face| face.unsigned_abs() == 33_150)
+    );
 }

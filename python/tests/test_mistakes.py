@@ -20,6 +20,13 @@ from osgeo import gdal
 from wundjeska.program import program
 
 KIT = TOP / "recipes/kit"
+HALF_LOADED = """import os, signal
+try:
+    os.kill(os.getpid(), signal.SIGINT)
+except BaseException:
+    pass
+raise ImportError("numpy.core.multiarray failed to import")
+"""
 PHASE, COHERENCE = KIT / "phase.tif", KIT / "coherence.tif"
 
 
@@ -316,6 +323,18 @@ class OneLine(Mistakes):
                 told = running.communicate(timeout=30)[1]
                 self.refused((running.returncode, told), "interrupted")
                 self.assertLess(time.monotonic() - began, 20)
+
+    def test_an_interrupt_while_gdal_loads(self) -> None:
+        """C code that is interrupted as it loads says that something else went wrong."""
+        self.at("osgeo").mkdir()
+        self.at("osgeo/__init__.py").write_text(HALF_LOADED)
+        places = os.pathsep.join(filter(None, [str(self.folder), os.environ.get("PYTHONPATH")]))
+        for verb in ("to_session.py", "scenes", "closure.py"):
+            told = command(
+                verb, self.folder, PHASE, PHASE, self.at("made"), env={**os.environ, "PYTHONPATH": places},
+                preexec_fn=lambda: signal.signal(signal.SIGINT, signal.default_int_handler) and None,
+            )
+            self.assertEqual(told, (130, "interrupted\n"))
 
     def test_a_full_disk(self) -> None:
         session, report = self.session_and_report()

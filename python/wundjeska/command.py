@@ -4,10 +4,11 @@ from argparse import ArgumentParser
 from difflib import get_close_matches
 from importlib import import_module
 from pathlib import Path
+from types import ModuleType
 from typing import Dict, List, NoReturn, Optional
 
 from . import __version__
-from .trouble import REFUSED_WORDS, Trouble, run_main
+from .trouble import REFUSED_WORDS, Trouble, held, run_main
 
 VERBS: Dict[str, str] = {
     "unwrap": "unwraps an interferogram in a file, has the result checked and writes it",
@@ -27,9 +28,15 @@ ALIKE = 0.7  # of the letters of a word and of a verb, which it may have been me
 USE = "usage: wundjeska [VERB] WORDS..; `wundjeska VERB --help` tells a verb's words\n\n"
 
 
+def module_of(verb: str) -> ModuleType:
+    """The module of a verb, with which GDAL is loaded."""
+    with held():
+        return import_module(f".commands.{verb}", __package__)
+
+
 def parser_of(verb: str) -> ArgumentParser:
     """The parser of a verb's words."""
-    parser: ArgumentParser = import_module(f".commands.{verb}", __package__).words()
+    parser: ArgumentParser = module_of(verb).words()
     parser.prog = f"wundjeska {verb}"
     setattr(parser, "error", refuse)
     return parser
@@ -64,12 +71,12 @@ def with_auto(words: List[str]) -> List[str]:
 def run(verb: str, words: List[str]) -> int:
     """The status of a verb."""
     if verb == "scenes":  # words after the folder are Snakemake's
-        status: int = import_module(".commands.scenes", __package__).main(words)
+        status: int = module_of(verb).main(words)
         return status
     parser = parser_of(verb)
     has_auto = any("--reference-auto" in action.option_strings for action in parser._actions)
     asked = parser.parse_args(with_auto(words) if has_auto else words)
-    status = import_module(f".commands.{verb}", __package__).main(asked)
+    status = module_of(verb).main(asked)
     return status
 
 

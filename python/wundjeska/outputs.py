@@ -6,7 +6,7 @@ from pathlib import Path
 from types import TracebackType
 from typing import Dict, Iterable, List, Optional, Type, Union
 
-from .trouble import FILE_FAULT, REFUSED_WORDS, Trouble
+from .trouble import FILE_FAULT, REFUSED_WORDS, Trouble, held
 
 SIDECARS = (".aux.xml", ".ovr", ".msk")  # what GDAL keeps beside a raster, as the statistics of the one before
 SUFFIXES = (".tif", ".tiff")  # of the rasters that are written
@@ -62,7 +62,8 @@ def is_raster(path: Path) -> bool:
         file.seek(-min(len(SCRIPT_END), path.stat().st_size), os.SEEK_END)
         end = file.read()
     try:
-        from osgeo import gdal
+        with held():
+            from osgeo import gdal
     except ImportError:
         return start in TIFF
     driver = gdal.IdentifyDriver(os.fsencode(path))

@@ -11,7 +11,7 @@ from typing import Any, Dict, List, Optional
 
 from .networks import pair_of
 from .outputs import keep
-from .trouble import run_main
+from .trouble import held, run_main
 
 MOST = 20  # loops and odd names that are listed
 KEPT = "; the surface of an earlier run still stands"
@@ -106,7 +106,8 @@ def main() -> int:
 
 def write_table(scenes: List[Scene]) -> None:
     """Writes the table of all scenes."""
-    from .stack_table import NAME, row_of, table_of
+    with held():
+        from .stack_table import NAME, row_of, table_of
 
     keep(Path(NAME), table_of([row_of(scene) for scene in scenes]).encode())
     print(f"{NAME} has a line for each")

@@ -3,9 +3,11 @@ import io
 import os
 import signal
 import sys
+import threading
 import warnings
+from contextlib import contextmanager
 from types import FrameType
-from typing import Any, Callable, NoReturn, Optional, Type
+from typing import Any, Callable, Iterator, List, NoReturn, Optional, Type
 
 from .progress import say
 
@@ -86,6 +88,27 @@ def status_of(main: Callable[[], int]) -> int:
 
 def interrupt(*_: object) -> NoReturn:
     raise KeyboardInterrupt
+
+
+@contextmanager
+def held() -> Iterator[None]:
+    """While this lasts an interrupt waits, and at its end it is raised: GDAL and NumPy take one in the middle of being loaded for an
+    error of their own, or lose it."""
+    if threading.current_thread() is not threading.main_thread():  # no other one is interrupted
+        yield
+        return
+    came: List[int] = []
+    before = {sent: signal.getsignal(sent) for sent in (signal.SIGINT, signal.SIGTERM)}
+    handlers = {sent: handler for sent, handler in before.items() if callable(handler)}  # others are the system's
+    for sent in handlers:
+        signal.signal(sent, lambda number, _: came.append(number))
+    try:
+        yield
+    finally:
+        for sent, handler in handlers.items():
+            signal.signal(sent, handler)
+        for number in came[:1]:
+            signal.raise_signal(number)
 
 
 def run_main(main: Callable[[], int]) -> NoReturn:

@@ -3,10 +3,14 @@ import fcntl
 import os
 import pty
 import re
+import shutil
+import signal
 import struct
 import subprocess
 import termios
+import time
 import unittest
+from contextlib import suppress
 from typing import Any, List, Tuple
 
 import numpy as np
@@ -99,6 +103,56 @@ class Terminal(OnTerminal):
             self.assertEqual((status, len(re.findall("^frame-[01]-[01]: columns", told, re.MULTILINE))), (0, 4))
             (self.folder / "tqdm.py").unlink(missing_ok=True)
         self.assertEqual("4/4 |" in shown, has_module("tqdm"))
+
+
+class Scenes(OnTerminal):
+    def setUp(self) -> None:
+        super().setUp()
+        for number in (1, 2, 3):
+            scene = self.folder / f"scenes/scene-{number}"
+            scene.mkdir(parents=True)
+            for kind in ("phase", "coherence"):
+                shutil.copy(HERE / f"kit/{kind}.tif", scene)
+
+    def lines(self, *words: str) -> List[str]:
+        """The lines on scenes of a run that fails."""
+        status, _, shown = self.run_on_one("scenes", self.folder / "scenes", "--cores", "1", *words)
+        self.assertEqual(status, 1, shown)
+        return [line for line in shown.splitlines() if re.match("[0-9]+ of [0-9]+ scenes", line)]
+
+    def test_a_line_as_each_scene_ends(self) -> None:
+        """A second run has one scene to do, and it fails again."""
+        (self.folder / "scenes/scene-2/coherence.tif").write_text("none")
+        first = self.lines()
+        self.assertEqual([line[:13] for line in first], [f"{number} of 3 scenes" for number in (1, 2, 3)])
+        self.assertEqual(sum(line.endswith(", 1 failed: scene-2 failed") for line in first), 1)
+        self.assertEqual(self.lines(), ["3 of 3 scenes, 1 failed: scene-2 failed"])
+        self.assertEqual(self.lines("--quiet"), [])
+
+    def interrupted_after(self, mark: bytes) -> str:
+        """What a terminal shows of a run at which its user types Ctrl-C, once it shows the mark, and that nothing of it runs on."""
+        ours, theirs = pty.openpty()
+        with subprocess.Popen(
+            argv("scenes", self.folder / "scenes"), stdin=theirs, stdout=theirs, stderr=theirs, start_new_session=True,
+            preexec_fn=lambda: fcntl.ioctl(0, termios.TIOCSCTTY, 0) and None,
+        ) as run:
+            os.close(theirs)
+            shown = b""
+            while mark not in shown:
+                shown += os.read(ours, 4096)
+            os.write(ours, b"\x03")
+            text = (shown + self.read(ours).encode()).decode()
+        self.assertNotEqual(run.returncode, 0, text)
+        with suppress(ProcessLookupError):
+            time.sleep(0.5)
+            os.killpg(run.pid, signal.SIGKILL)
+            self.fail(f"something ran on: {text}")
+        return text
+
+    def test_an_interrupt(self) -> None:
+        for mark in (b"", b"Building DAG", b"rule unwrap", b"jobid: ", b"1 of 3 scenes"):
+            with self.subTest(mark=mark):
+                self.assertNotIn("3 of 3 scenes are accepted", self.interrupted_after(mark))
 
 
 if __name__ == "__main__":

@@ -16,10 +16,12 @@ from ..outputs import keep
 from ..planes import TILED_LIMITS
 from ..program import program
 from ..scene_words import IGRAM, PAIR, Wanted, is_odd, key_help, scenes_in, wanted
-from ..trouble import FILE_FAULT, REFUSED_WORDS, Trouble
+from ..trouble import FILE_FAULT, REFUSED_WORDS, Trouble, held
 
 SNAKEFILE = Path(__file__).resolve().parent.parent / "Snakefile"
 SLURM = SNAKEFILE.parent / "slurm"
+# The other scheduler calls a solver, and an interrupt that reaches that one is lost.
+SETTINGS = ("--cores", "4", "--keep-going", "--rerun-incomplete", "--scheduler", "greedy")
 BYTES_OF_PHASE = 4  # at least, in a raw raster
 USE = f"""usage: wundjeska scenes FOLDER [KEY=VALUE..] [WORDS..]
 
@@ -93,7 +95,8 @@ def config_of(folder: Path, asked: Wanted, said: str) -> Dict[str, object]:
 
 def pixels_of(path: Path) -> int:
     """How many pixels a raster has, or may have by its size if GDAL does not know it."""
-    from osgeo import gdal
+    with held():
+        from osgeo import gdal
 
     gdal.UseExceptions()
     try:
@@ -133,5 +136,5 @@ def main(words: List[str]) -> int:
     if snakemake is None:
         raise Trouble("scenes want Debian's package snakemake", FILE_FAULT)
     environment = {**os.environ, "UNWRAP": program(), "WUNDJESKA_PYTHON": sys.executable}
-    more = ["--configfile", str(keep_config(folder, config)), "--cores", "4", "--keep-going", "--rerun-incomplete"]
+    more = ["--configfile", str(keep_config(folder, config)), *SETTINGS]
     os.execve(snakemake, [snakemake, "-s", str(SNAKEFILE), "--directory", str(folder), *more, *with_profile(others)], environment)

@@ -61,12 +61,13 @@ class Told(InFolder):
         self.assertEqual(Needs(1460, 400).told(), "needs about 1.5 GB and 7 minutes of a processor")
 
     def test_large_rasters_and_long_rows(self) -> None:
-        """Runs of these held 3.4, 2.0, 1.9 and 2.5 GB."""
+        """Runs of these held 3.4, 2.0, 1.9, 2.5 and 6.4 GB."""
         for width, height, is_filtered, has_page, wanted in (
             (5000, 4000, True, False, "4.1"),
             (65535, 100, True, False, "1.9"),
             (5000, 4000, False, False, "2.1"),
             (5000, 4000, False, True, "2.6"),
+            (8192, 8192, False, False, "6.8"),
         ):
             needs = needs_of(width * height, width * height, is_filtered, has_page, width)
             self.assertIn(f"about {wanted} GB", needs.told())

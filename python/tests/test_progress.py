@@ -21,6 +21,12 @@ KIT = (HERE / "kit/phase.tif", "--coherence", HERE / "kit/coherence.tif")
 SIZE = (40, 100)  # of the terminal: lines and columns
 
 
+def on_terminal() -> None:
+    """In the child: its standard input is its terminal, and an interrupt ends it."""
+    fcntl.ioctl(0, termios.TIOCSCTTY, 0)
+    signal.signal(signal.SIGINT, signal.default_int_handler)
+
+
 def has_module(name: str) -> bool:
     """Whether the commands have a module."""
     return subprocess.run(["/usr/bin/python3", "-c", f"import {name}"], capture_output=True).returncode == 0
@@ -134,7 +140,7 @@ class Scenes(OnTerminal):
         ours, theirs = pty.openpty()
         with subprocess.Popen(
             argv("scenes", self.folder / "scenes"), stdin=theirs, stdout=theirs, stderr=theirs, start_new_session=True,
-            preexec_fn=lambda: fcntl.ioctl(0, termios.TIOCSCTTY, 0) and None,
+            preexec_fn=on_terminal,
         ) as run:
             os.close(theirs)
             shown = b""

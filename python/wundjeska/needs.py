@@ -1,7 +1,7 @@
 """What a raster needs, told before anything is begun: memory and time, by how many pixels it has. Python alone.
 
-Measured of made scenes of one, four and twenty million pixels, and without a filter of 67 million: the most that all processes held at once, and seconds of a processor. It is
-a guess for others, so nothing is refused by it.
+Measured of made scenes of one, four and twenty million pixels, and without a filter of 67 million: the most that all processes held
+at once, and seconds of a processor. It is a guess for others, so nothing is refused by it.
 """
 import os
 from dataclasses import dataclass
